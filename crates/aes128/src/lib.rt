@@ -1,0 +1,151 @@
+// Keys of AES-128, their text, and the keys derived from a root key (src/aes128.rs of the Rust); FIPS 197 itself is in cipher.rt.
+mod cipher;
+
+pub use cipher::Cipher;
+pub use cipher::encipher;
+pub use cipher::prepare;
+ghost use mathlib.Core.Path.{_≡_};
+ghost use Rattle.base.specs.Answers.{bytes, answerOf, outOf};
+ghost use Rattle.wire.specs.Hex.{hexText};
+ghost use Rattle.fips197.specs.Aes.{aes};
+ghost use Rattle.aes128.specs.Key.{keyOf, nullKey, keyRead, keyRefused, keyFromSlice, keyFromText, signingKey, encryptionKey};
+use base::Checked;
+use base::Refusal;
+use base::Written;
+use wire::emit;
+use wire::is_hex;
+use wire::put_all;
+use wire::read_hex;
+use wire::write_hex;
+
+pub struct Aes128Key([u8; 16]);
+
+// A key that was read, or the refusal, with the null key beside it.
+pub struct KeyRead {
+    pub answer: Checked,
+    pub key: Aes128Key,
+}
+
+impl KeyRead {
+    fn accepted(bytes: [u8; 16]) -> KeyRead
+        ensures { λ r. ⌜ r ≡ keyRead bytes ⌝ }
+    {
+        KeyRead {
+            answer: Checked::Accepted,
+            key: Aes128Key(bytes),
+        }
+    }
+
+    fn refused(number: u8) -> KeyRead
+        ensures { λ r. ⌜ r ≡ keyRefused number ⌝ }
+    {
+        KeyRead {
+            answer: Checked::Refused(number),
+            key: Aes128Key([0u8; 16]),
+        }
+    }
+}
+
+impl Aes128Key {
+    // Bytes of a key, and digits of its text.
+    pub const LENGTH: usize = 16;
+
+    pub const TEXT_LENGTH: usize = 32;
+
+    pub const NULL: Aes128Key = Aes128Key([0; 16]);
+
+    pub fn null() -> Aes128Key
+        ensures { λ r. ⌜ r ≡ nullKey ⌝ }
+    {
+        Aes128Key::NULL
+    }
+
+    pub fn from_slice(b: &[u8]) -> KeyRead
+        ensures { λ r. ⌜ r ≡ keyFromSlice (now (b .entry)) ⌝ }
+    {
+        if b.len() != Aes128Key::LENGTH {
+            return KeyRead::refused(Refusal::KEY_LENGTH);
+        }
+        let mut k = [0u8; 16];
+        put_all(b, &mut k, 0);
+        KeyRead::accepted(k)
+    }
+
+    pub fn from_bytes(b: [u8; 16]) -> Aes128Key
+        ensures { λ r. ⌜ r ≡ keyOf b ⌝ }
+    {
+        Aes128Key(b)
+    }
+
+    pub fn to_bytes(self) -> [u8; 16]
+        ensures { λ r. ⌜ r ≡ self .0 ⌝ }
+    {
+        self.0
+    }
+
+    // The Rust's to_vec.
+    pub fn write(self, out: &mut [u8]) -> Written
+        ensures answer { λ r. ⌜ r ≡ answerOf (bytes (self .0)) (now (out .entry)) ⌝ }
+        ensures bytes { λ _. ⌜ now (out .exit) ≡ outOf (bytes (self .0)) (now (out .entry)) ⌝ }
+    {
+        let k = self.0;
+        emit(&k, out)
+    }
+
+    // A key's text, in either case.
+    pub fn from_str(s: &[u8]) -> KeyRead
+        ensures { λ r. ⌜ r ≡ keyFromText (now (s .entry)) ⌝ }
+    {
+        if s.len() != Aes128Key::TEXT_LENGTH {
+            return KeyRead::refused(Refusal::KEY_LENGTH);
+        }
+        if !is_hex(s) {
+            return KeyRead::refused(Refusal::KEY_DIGIT);
+        }
+        let mut k = [0u8; 16];
+        read_hex(s, &mut k);
+        KeyRead::accepted(k)
+    }
+
+    // The Rust's Display: 32 digits in lower case.
+    pub fn write_text(self, out: &mut [u8]) -> Written
+        ensures answer { λ r. ⌜ r ≡ answerOf (bytes (hexText (self .0))) (now (out .entry)) ⌝ }
+        ensures bytes { λ _. ⌜ now (out .exit) ≡ outOf (bytes (hexText (self .0))) (now (out .entry)) ⌝ }
+    {
+        if out.len() < Aes128Key::TEXT_LENGTH {
+            return Written::Refused(Refusal::OUTPUT_SHORT);
+        }
+        let k = self.0;
+        write_hex(&k, out, 0);
+        Written::Bytes(Aes128Key::TEXT_LENGTH)
+    }
+}
+
+// One block under a key. Whoever enciphers more under one key prepares it once.
+pub fn encrypt_block(key: Aes128Key, block: [u8; 16]) -> [u8; 16]
+    ensures { λ r. ⌜ r ≡ aes (key .0) block ⌝ }
+{
+    let e = prepare(key);
+    encipher(&e, block)
+}
+
+pub fn get_signing_key(key: Aes128Key) -> Aes128Key
+    ensures { λ r. ⌜ r ≡ keyOf (signingKey (key .0)) ⌝ }
+{
+    let b = [0u8; 16];
+    get_key(key, b)
+}
+
+pub fn get_encryption_key(key: Aes128Key) -> Aes128Key
+    ensures { λ r. ⌜ r ≡ keyOf (encryptionKey (key .0)) ⌝ }
+{
+    let mut b = [0u8; 16];
+    b[0] = 1;
+    get_key(key, b)
+}
+
+fn get_key(key: Aes128Key, b: [u8; 16]) -> Aes128Key
+    ensures { λ r. ⌜ r ≡ keyOf (aes (key .0) b) ⌝ }
+{
+    Aes128Key(encrypt_block(key, b))
+}

@@ -1,0 +1,33 @@
+-- Laws of what a writer answers and leaves. Assumes nothing.
+use mathlib.Core.Path.{_≡_, refl, sym, ap, _∙_}
+use mathlib.Core.Bool.{Bool, true, false}
+use mathlib.Core.List.{List, _++_}
+use Prim.Native.Nat.{ℕ, _≤_, _<_}
+use native.Mathlib.Omega.{arith}
+use lib.Dec.{ltb}
+use lib.ListN.{length, drop, length-append, length-drop}
+use borrow.Author.Tests.{lt-ltb, le-ltb, ltb-false}
+use Rattle.base.specs.Pick.{pick}
+use Rattle.base.specs.Numbers.{outputShort}
+use Rattle.base.specs.Answers.{Frame, bytes, refused, answerOf, outOf}
+use Rattle.base.specs.declared.Written.the-variants.{Bytes, Refused}
+
+-- a short output: 21, and every byte as it was
+pub no-room : (w o : List ℕ) → length o < length w → (answerOf (bytes w) o ≡ Refused outputShort) × (outOf (bytes w) o ≡ o)
+unfolding answerOf outOf
+no-room w o h = (simp (lt-ltb (length o) (length w) h), simp (lt-ltb (length o) (length w) h))
+
+-- room enough: the bytes at the front, and all beyond them as before
+pub room : (w o : List ℕ) → length w ≤ length o → (answerOf (bytes w) o ≡ Bytes (length w)) × (outOf (bytes w) o ≡ w ++ drop (length w) o)
+unfolding answerOf outOf
+room w o h = (simp (le-ltb (length o) (length w) h), simp (le-ltb (length o) (length w) h))
+
+-- the output keeps its length
+kept : (w o : List ℕ) (t : Bool) → ltb (length o) (length w) ≡ t → length (pick t o (w ++ drop (length w) o)) ≡ length o
+kept w o true e = refl
+kept w o false e = let h : length w ≤ length o = ltb-false _ _ e in simp (length-append, length-drop) (omega arith)
+
+pub out-length : (f : Frame) (o : List ℕ) → length (outOf f o) ≡ length o
+unfolding outOf
+out-length (bytes w) o = kept w o (ltb (length o) (length w)) refl
+out-length (refused n) o = refl

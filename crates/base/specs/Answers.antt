@@ -1,0 +1,42 @@
+-- What a call answers, in document 01's terms, and what a writer answers and leaves. Assumes nothing.
+use Prim.Native.Nat.{ℕ}
+use mathlib.Core.List.{List, _++_}
+use lib.Dec.{ltb}
+use lib.ListN.{length, drop}
+use Rattle.base.specs.Pick.{pick}
+use Rattle.base.specs.Numbers.{outputShort}
+use Rattle.base.specs.declared.Written as written
+use Rattle.base.specs.declared.Written.{Written}
+use Rattle.base.specs.declared.Written.the-variants.{Bytes, Refused}
+use Rattle.base.specs.declared.Checked.{Checked}
+use Rattle.base.specs.declared.Checked.the-variants as checked
+
+-- the values, or document 01's number of the refusal
+pub data Answer (A : Type 0) : Type 0 where
+  value : A → Answer A
+  number : ℕ → Answer A
+
+-- how many bytes were written, or the number
+abbrev pub writtenSays : Written → Answer ℕ
+writtenSays (Bytes n) = value n
+writtenSays (Refused n) = number n
+
+-- what stands beside the answer, or the number
+abbrev pub checkedSays : {A : Type 0} → Checked → A → Answer A
+checkedSays checked.Accepted a = value a
+checkedSays (checked.Refused n) a = number n
+
+-- what is to be written, or the first refusal
+pub data Frame : Type 0 where
+  bytes : List ℕ → Frame
+  refused : ℕ → Frame
+
+-- what a writer answers: 21 comes last, where the output has too few places
+unfoldable pub answerOf : Frame → List ℕ → Written
+answerOf (refused n) out = Refused n
+answerOf (bytes w) out = pick (ltb (length out) (length w)) (Refused outputShort) (Bytes (length w))
+
+-- what it leaves in the output: all as before when it refuses, and otherwise all beyond what is written
+unfoldable pub outOf : Frame → List ℕ → List ℕ
+outOf (refused n) out = out
+outOf (bytes w) out = pick (ltb (length out) (length w)) out (w ++ drop (length w) out)

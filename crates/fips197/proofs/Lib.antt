@@ -1,0 +1,4 @@
+pub mod Field
+pub mod Table
+pub mod Bytes
+pub mod Fixed
