@@ -1,0 +1,104 @@
+-- What a turn of `absorb` does, bytes into the block in hand or a whole block at once, and what `finish` does. Assumes nothing.
+use mathlib.Core.Path.{_≡_, sym, ap, ap₂, _∙_}
+use Prim.Native.Nat.{ℕ, suc, _+_, _≤_, _<_}
+use native.Mathlib.Nat.{add-zero}
+use native.Mathlib.Omega.{arith}
+use mathlib.Core.List.{List, [], _∷_, _++_, foldl, foldl-append, append-assoc, append-nil}
+use lib.Bits.{bitXor}
+use lib.ListN.{length, getD, take, drop, take-append-drop, length-append, length-drop}
+use lib.Seq.{drop-drop, length-take-le, getD-take, getD-drop, drop-cons}
+use borrow.Author.Tests.{lt-ltb, le-ltb}
+use Rattle.base.specs.Lists.{from, added}
+use Rattle.base.proofs.Lists.{from-same, added-none, added-one, added-by-index, fold-more}
+use Rattle.cmac.specs.Cmac.{k1, k2}
+use Rattle.cmac.specs.State.{addedAt, absorb1, finished}
+use Rattle.cmac.specs.Progress.{Progress}
+use Rattle.cmac.specs.declared.Mac.{Mac}
+
+module _ (E : List ℕ → List ℕ) (x : List ℕ) where
+  -- p in hand, q follows in the same block
+  fill : (p q : List ℕ) → length p + length q ≤ 16
+      → foldl (absorb1 E) (record { x = added x p; count = length p }) q ≡ record { x = added x (p ++ q); count = length (p ++ q) }
+  unfolding absorb1
+  fill p [] h = rw append-nil
+  fill p (b ∷ q) h =
+      let l : length p < 16 = omega arith in
+      let e : length (p ++ b ∷ []) ≡ length p + 1 = length-append p (b ∷ []) in
+      let k : length (p ++ b ∷ []) + length q ≤ 16 = omega arith in
+      simp (lt-ltb (length p) 16 l)
+      (ap₂ (λ (y : List ℕ) (c : ℕ). foldl (absorb1 E) (record { x = y; count = c }) q) (added-one x p b) (sym e)
+      ∙ fill (p ++ b ∷ []) q k
+      ∙ rw append-assoc)
+
+first : (E : List ℕ → List ℕ) (m : Mac) (b : ℕ) → 16 ≤ m .count
+    → absorb1 E m b ≡ record { x = added (E (m .x)) (b ∷ []); count = 1 }
+unfolding absorb1
+first E m b h =
+    let p = rw (added-none (E (m .x))) at (added-one (E (m .x)) [] b) in
+    simp (le-ltb (m .count) 16 h) (ap (λ (y : List ℕ). record { x = y; count = 1 }) p)
+
+-- a full block in hand, and a whole one follows
+block : (E : List ℕ → List ℕ) (m : Mac) (q : List ℕ) → 16 ≤ m .count → length q ≡ 16
+    → foldl (absorb1 E) m q ≡ record { x = added (E (m .x)) q; count = 16 }
+block E m [] h e = absurd (omega arith)
+block E m (b ∷ q) h e =
+    let f : absorb1 E m b ≡ record { x = added (E (m .x)) (b ∷ []); count = 1 } = first E m b h in
+    ap (λ (s : Mac). foldl (absorb1 E) s q) f
+    ∙ fill E (E (m .x)) (b ∷ []) q (omega arith)
+    ∙ ap (λ (n : ℕ). record { x = added (E (m .x)) (b ∷ q); count = n }) e
+
+pub by-block : (E : List ℕ → List ℕ) (s : List ℕ) (i : ℕ) (m : Mac) (y : List ℕ) → 16 ≤ m .count → i + 16 ≤ length s
+    → y ≡ added (E (m .x)) (take 16 (drop i s)) → Progress (absorb1 E) s m i (record { x = y; count = 16 }) (i + 16)
+by-block E s i m y h l e =
+    let D = drop i s in
+    let k : 16 ≤ length D = rw length-drop (omega arith) in
+    let q : length (take 16 D) ≡ 16 = length-take-le 16 D k in
+    let b = block E m (take 16 D) h q ∙ ap (λ (z : List ℕ). record { x = z; count = 16 }) (sym e) in
+    record {
+      same = ap (foldl (absorb1 E) m) (sym (take-append-drop 16 D)) ∙ foldl-append (absorb1 E) m (take 16 D) (drop 16 D)
+          ∙ ap₂ (λ (a : Mac) (r : List ℕ). foldl (absorb1 E) a r) b (drop-drop 16 i s);
+      more = omega arith;
+      most = omega arith;
+    }
+
+-- a full block enciphered, and none of the next in hand
+pub flushed : (E : List ℕ → List ℕ) (s : List ℕ) (m : Mac) (y : List ℕ) (i : ℕ) {n : Mac} {j : ℕ}
+    → 16 ≤ m .count → i < length s → y ≡ E (m .x) → Progress (absorb1 E) s (record { x = y; count = 0 }) i n j
+    → Progress (absorb1 E) s m i n j
+unfolding absorb1
+flushed E s m y i {n} {j} h l e p =
+    let D = drop (suc i) s in
+    let f : absorb1 E m (getD s i 0) ≡ absorb1 E (record { x = y; count = 0 }) (getD s i 0) = simp (le-ltb (m .count) 16 h) (rw e) in
+    record {
+      same = ap (foldl (absorb1 E) m) (drop-cons s i 0 l) ∙ ap (λ (a : Mac). foldl (absorb1 E) a D) f
+          ∙ sym (ap (foldl (absorb1 E) (record { x = y; count = 0 })) (drop-cons s i 0 l)) ∙ p .same;
+      more = p .more;
+      most = p .most;
+    }
+
+-- one byte more into the block
+pub fill-more : (E : List ℕ → List ℕ) (s : List ℕ) (j c : ℕ) (x : List ℕ) {all : Mac} → c < 16 → j < length s
+    → all ≡ foldl (absorb1 E) (record { x = x; count = c }) (drop j s)
+    → all ≡ foldl (absorb1 E) (record { x = addedAt x c (getD s j 0); count = c + 1 }) (drop (j + 1) s)
+unfolding absorb1
+fill-more E s j c x h l p =
+    p ∙ fold-more (absorb1 E) s j (record { x = x; count = c }) _ l (simp (lt-ltb c 16 h))
+
+-- sixteen bytes of s from i on, as the code writes them out
+pub added-slice : (x s : List ℕ) (i : ℕ) → length x ≡ 16
+    → bitXor (getD x 0 0) (getD s i 0) ∷ from 15 1 (λ k. bitXor (getD x k 0) (getD s (i + k) 0)) ≡ added x (take 16 (drop i s))
+added-slice x s i h =
+    ap (λ (n : ℕ). bitXor (getD x 0 0) (getD s n 0) ∷ from 15 1 (λ k. bitXor (getD x k 0) (getD s (i + k) 0))) (sym (add-zero i))
+    ∙ from-same 16 0 _ _ (λ k q. ap (bitXor (getD x k 0)) (sym (getD-take 16 (drop i s) k 0 (omega arith) ∙ getD-drop i s k 0)))
+    ∙ added-by-index 16 x (take 16 (drop i s)) h
+
+-- the end, with a block in hand that is short, and with a full one
+pub finish-short : (E : List ℕ → List ℕ) (m : Mac) {k a r : List ℕ} → m .count < 16 → r ≡ E a → a ≡ added (addedAt (m .x) (m .count) 0x80) k
+    → k ≡ k2 E → r ≡ finished E m
+unfolding finished
+finish-short E m h p q e = simp (lt-ltb (m .count) 16 h) (p ∙ ap E (q ∙ rw e))
+
+pub finish-full : (E : List ℕ → List ℕ) (m : Mac) {k a r : List ℕ} → 16 ≤ m .count → r ≡ E a → a ≡ added (m .x) k
+    → k ≡ k1 E → r ≡ finished E m
+unfolding finished
+finish-full E m h p q e = simp (le-ltb (m .count) 16 h) (p ∙ ap E (q ∙ rw e))

@@ -1,0 +1,27 @@
+-- `cmac::turn` meets its contract. Assumes nothing.
+use Prim.Native.Nat.{ℕ}
+use mathlib.Core.List.{List}
+use lib.ListN.{take, drop}
+use Rattle.base.specs.Lists.{added}
+use Rattle.cmac.proofs.Turns.{by-block, flushed}
+use borrow.Author.Needs.{needs}
+use native.Mathlib.Omega.{arith}
+use mathlib.Core.Path.{ap, _∙_}
+use denote.Ref.{now}
+use Rattle.cmac.proofs.turn.Statement.{statement}
+use Rattle.cmac.proofs.turn.Tie as tie
+
+returns : tie.Need-returns
+returns c = c .run .ensures _
+
+returns-2 : tie.Need-returns-2
+returns-2 c = let a = c .before .before .before .before .before .before .args in
+    by-block _ (now (a .s)) (a .i) (a .m) _ (omega arith) (omega arith)
+    (c .add-part .ensures ∙ ap (λ (z : List ℕ). added z (take 16 (drop (a .i) (now (a .s))))) (c .before .before .encipher .ensures))
+
+returns-3 : tie.Need-returns-3
+returns-3 c = let a = c .before .before .before .before .before .before .args in
+    flushed _ (now (a .s)) (a .m) _ (a .i) (omega arith) (omega arith) (c .before .before .encipher .ensures) (c .run2 .ensures _)
+
+pub turn-spec : {M : Type 1} → statement M
+turn-spec = tie.close (tie.spec (λ c κs. search needs) returns (λ c κs. search needs) (λ c. search needs) (λ c κs. search needs) (λ c. search needs) returns-2 (λ c κs. search needs) returns-3)

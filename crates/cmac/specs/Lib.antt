@@ -1,0 +1,3 @@
+pub mod Cmac
+pub mod State
+pub mod Progress

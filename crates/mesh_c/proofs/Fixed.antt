@@ -1,0 +1,31 @@
+-- Each public call of this crate has one outcome. Assumes nothing.
+use mathlib.Core.Path.{refl, sym, ap, _∙_}
+use mathlib.Core.List.{List}
+use Prim.Native.Nat.{ℕ}
+use denote.Ref.{now}
+use Rattle.base.proofs.Outcome.{Fixed, FixedPart}
+use Rattle.mesh_c.proofs.mesh_encrypt_block.Kinds as mesh-encrypt-block-kinds
+use Rattle.mesh_c.proofs.mesh_encrypt_block.Reads as mesh-encrypt-block-reads
+use Rattle.mesh_c.proofs.mesh_prepare.Kinds as mesh-prepare-kinds
+use Rattle.mesh_c.proofs.mesh_prepare.Reads as mesh-prepare-reads
+use Rattle.mesh_c.proofs.mesh_encipher.Kinds as mesh-encipher-kinds
+use Rattle.mesh_c.proofs.mesh_encipher.Reads as mesh-encipher-reads
+use Rattle.mesh_c.proofs.mesh_cmac.Kinds as mesh-cmac-kinds
+use Rattle.mesh_c.proofs.mesh_cmac.Reads as mesh-cmac-reads
+use Rattle.mesh_c.proofs.mesh_mac.Kinds as mesh-mac-kinds
+use Rattle.mesh_c.proofs.mesh_mac.Reads as mesh-mac-reads
+
+mesh-encrypt-block : Fixed 2 mesh-encrypt-block-kinds.ps mesh-encrypt-block-kinds.r mesh-encrypt-block-reads.Post
+mesh-encrypt-block κs a x y v w p q = (refl, ap (λ (l : List ℕ). (tt, (l, tt))) (p ∙ sym q))
+
+mesh-prepare : Fixed 2 mesh-prepare-kinds.ps mesh-prepare-kinds.r mesh-prepare-reads.Post
+mesh-prepare κs a x y v w p q = (refl, ap (λ (l : List ℕ). (tt, (l, tt))) (p ∙ sym q))
+
+mesh-encipher : Fixed 2 mesh-encipher-kinds.ps mesh-encipher-kinds.r mesh-encipher-reads.Post
+mesh-encipher κs a x y v w p q = (refl, ap (λ (l : List ℕ). (tt, (l, tt))) (p ∙ sym q))
+
+mesh-cmac : Fixed 3 mesh-cmac-kinds.ps mesh-cmac-kinds.r mesh-cmac-reads.Post
+mesh-cmac κs a x y v w p q = (refl, ap (λ (l : List ℕ). (tt, (tt, (l, tt)))) (p ∙ sym q))
+
+mesh-mac : Fixed 3 mesh-mac-kinds.ps mesh-mac-kinds.r mesh-mac-reads.Post
+mesh-mac κs a x y v w p q = (refl, ap (λ (l : List ℕ). (tt, (tt, (l, tt)))) (p ∙ sym q))

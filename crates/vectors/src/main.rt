@@ -1,0 +1,249 @@
+// Runs the published vectors of FIPS 197, SP 800-38A and RFC 4493, and the rules of keys in document 01, and prints a line for each.
+// The file stdout beside src/ has the published values; the gate compares.
+ghost use Prim.Native.Nat.{_≤_};
+use aes128::Aes128Key;
+use aes128::encrypt_block;
+use aes128::get_encryption_key;
+use aes128::get_signing_key;
+use aes128::prepare;
+use base::Checked;
+use base::Written;
+use cmac::Mac;
+use cmac::cmac;
+use cmac::subkey1;
+use cmac::subkey2;
+use libc::STDOUT_FILENO;
+use wire::part;
+use wire::read_hex;
+
+fn say(text: &[u8]) {
+    io::write_all(STDOUT_FILENO, text);
+}
+
+// Sixteen bytes as a key's text, and the end of the line.
+fn line(label: &[u8], value: [u8; 16]) {
+    say(label);
+    let mut text = [0u8; 32];
+    Aes128Key::from_bytes(value).write_text(&mut text);
+    say(&text);
+    say(b"\n");
+}
+
+fn number(label: &[u8], n: u8) {
+    say(label);
+    say(b"refused ");
+    io::print_decimal(STDOUT_FILENO, n as u64);
+    say(b"\n");
+}
+
+fn key_of(text: &[u8]) -> Aes128Key {
+    Aes128Key::from_str(text).key
+}
+
+fn block_of(text: &[u8]) -> [u8; 16] {
+    key_of(text).to_bytes()
+}
+
+fn block(label: &[u8], key: &[u8], plain: &[u8]) {
+    line(label, encrypt_block(key_of(key), block_of(plain)));
+}
+
+fn key_read(label: &[u8], r: aes128::KeyRead) {
+    let answer = r.answer;
+    let key = r.key;
+    match answer {
+        Checked::Accepted => line(label, key.to_bytes()),
+        Checked::Refused(n) => number(label, n),
+    }
+}
+
+fn written(label: &[u8], w: Written) {
+    match w {
+        Written::Bytes(n) => {
+            say(label);
+            io::print_decimal(STDOUT_FILENO, n as u64);
+            say(b" bytes\n");
+        }
+        Written::Refused(n) => number(label, n),
+    }
+}
+
+fn fips197() {
+    block(
+        b"FIPS 197 appendix B      ",
+        b"2b7e151628aed2a6abf7158809cf4f3c",
+        b"3243f6a8885a308d313198a2e0370734",
+    );
+    block(
+        b"FIPS 197 appendix C.1    ",
+        b"000102030405060708090a0b0c0d0e0f",
+        b"00112233445566778899aabbccddeeff",
+    );
+}
+
+fn sp800_38a() {
+    let key = b"2b7e151628aed2a6abf7158809cf4f3c";
+    block(
+        b"SP 800-38A F.1.1 block 1 ",
+        key,
+        b"6bc1bee22e409f96e93d7e117393172a",
+    );
+    block(
+        b"SP 800-38A F.1.1 block 2 ",
+        key,
+        b"ae2d8a571e03ac9c9eb76fac45af8e51",
+    );
+    block(
+        b"SP 800-38A F.1.1 block 3 ",
+        key,
+        b"30c81c46a35ce411e5fbc1191a0a52ef",
+    );
+    block(
+        b"SP 800-38A F.1.1 block 4 ",
+        key,
+        b"f69f2445df4f9b17ad2b417be66c3710",
+    );
+}
+
+// The four examples, and the two longer ones again in pieces that end inside a block, at its end and nowhere.
+fn tags(key: Aes128Key, m: &[u8]) {
+    line(b"RFC 4493 example 1       ", cmac(key, part(m, 0, 0)));
+    line(b"RFC 4493 example 2       ", cmac(key, part(m, 0, 16)));
+    line(b"RFC 4493 example 3       ", cmac(key, part(m, 0, 40)));
+    line(b"RFC 4493 example 4       ", cmac(key, m));
+    let e = prepare(key);
+    let a = Mac::start().absorb(&e, part(m, 0, 7));
+    let b = a.absorb(&e, part(m, 7, 25));
+    line(
+        b"example 3 in pieces      ",
+        b.absorb(&e, part(m, 32, 8)).finish(&e),
+    );
+    let c = b.absorb(&e, part(m, 32, 0));
+    line(
+        b"example 4 in pieces      ",
+        c.absorb(&e, part(m, 32, 32)).finish(&e),
+    );
+}
+
+fn rfc4493() {
+    let key = key_of(b"2b7e151628aed2a6abf7158809cf4f3c");
+    let e = prepare(key);
+    line(b"RFC 4493 K1              ", subkey1(&e));
+    line(b"RFC 4493 K2              ", subkey2(&e));
+    let mut m = [0u8; 64];
+    read_hex(
+        b"6bc1bee22e409f96e93d7e117393172aae2d8a571e03ac9c9eb76fac45af8e5130c81c46a35ce411e5fbc1191a0a52eff69f2445df4f9b17ad2b417be66c3710",
+        &mut m,
+    );
+    tags(key, &m);
+}
+
+fn keys() {
+    let root = key_of(b"000102030405060708090a0b0c0d0e0f");
+    line(b"null key                 ", Aes128Key::null().to_bytes());
+    line(
+        b"signing key              ",
+        get_signing_key(root).to_bytes(),
+    );
+    line(
+        b"encryption key           ",
+        get_encryption_key(root).to_bytes(),
+    );
+    let some = [7u8; 17];
+    key_read(
+        b"key of no bytes          ",
+        Aes128Key::from_slice(part(&some, 0, 0)),
+    );
+    key_read(
+        b"key of 15 bytes          ",
+        Aes128Key::from_slice(part(&some, 0, 15)),
+    );
+    key_read(
+        b"key of 16 bytes          ",
+        Aes128Key::from_slice(part(&some, 0, 16)),
+    );
+    key_read(b"key of 17 bytes          ", Aes128Key::from_slice(&some));
+    key_read(
+        b"text in upper case       ",
+        Aes128Key::from_str(b"2B7E151628AED2A6ABF7158809CF4F3C"),
+    );
+    key_read(
+        b"text of 31 digits        ",
+        Aes128Key::from_str(b"2b7e151628aed2a6abf7158809cf4f3"),
+    );
+    key_read(
+        b"text of 33 digits        ",
+        Aes128Key::from_str(b"2b7e151628aed2a6abf7158809cf4f3c0"),
+    );
+    key_read(
+        b"text of 31, one no digit ",
+        Aes128Key::from_str(b"2g7e151628aed2a6abf7158809cf4f3"),
+    );
+    key_read(
+        b"text with a g            ",
+        Aes128Key::from_str(b"2b7e151628aed2a6abf7158809cf4f3g"),
+    );
+    key_read(
+        b"text with a blank        ",
+        Aes128Key::from_str(b" b7e151628aed2a6abf7158809cf4f3c"),
+    );
+}
+
+// Whether a text of zeros that ends in the byte is a key's: 1 or 0.
+fn taken(b: u8) -> u64
+    ensures { λ r. ⌜ r ≤ 1 ⌝ }
+{
+    let mut text = [b'0'; 32];
+    text[31] = b;
+    let answer = Aes128Key::from_str(&text).answer;
+    match answer {
+        Checked::Accepted => 1,
+        Checked::Refused(_) => 0,
+    }
+}
+
+// Of the 256 bytes 22 are digits: ten, and six in either case.
+fn every_byte() {
+    let mut count: u64 = 0;
+    for i in 0usize..256 {
+        count += taken(i as u8);
+    }
+    say(b"bytes that are digits    ");
+    io::print_decimal(STDOUT_FILENO, count);
+    say(b"\n");
+}
+
+// A refusal leaves the output as it was; a success leaves what is beyond the written bytes.
+fn outputs() {
+    let key = key_of(b"2b7e151628aed2a6abf7158809cf4f3c");
+    let mut short = [0xaau8; 15];
+    written(b"key into 15 bytes        ", key.write(&mut short));
+    let mut shorter = [0xaau8; 31];
+    written(b"text into 31 bytes       ", key.write_text(&mut shorter));
+    key_read(
+        b"the output               ",
+        Aes128Key::from_slice(part(&shorter, 0, 16)),
+    );
+    let mut out = [0xaau8; 48];
+    written(b"text into 48 bytes       ", key.write_text(&mut out));
+    key_read(
+        b"the text again           ",
+        Aes128Key::from_str(part(&out, 0, 32)),
+    );
+    key_read(
+        b"what is beyond           ",
+        Aes128Key::from_slice(part(&out, 32, 16)),
+    );
+    let mut whole = [0xaau8; 16];
+    written(b"key into 16 bytes        ", key.write(&mut whole));
+    key_read(b"the key again            ", Aes128Key::from_slice(&whole));
+}
+
+fn main() {
+    fips197();
+    sp800_38a();
+    rfc4493();
+    keys();
+    every_byte();
+    outputs();
+}
