@@ -9,7 +9,8 @@ use lib.ListN.{length, drop, length-append, length-drop}
 use borrow.Author.Tests.{lt-ltb, le-ltb, ltb-false}
 use Rattle.base.specs.Pick.{pick}
 use Rattle.base.specs.Numbers.{outputShort}
-use Rattle.base.specs.Answers.{Frame, bytes, refused, answerOf, outOf}
+use Rattle.base.specs.Answers.{Frame, bytes, refused, checkedOf, bytesOr, answerOf, outOf}
+use Rattle.base.specs.declared.Checked.the-variants.{Accepted, Refused as No}
 use Rattle.base.specs.declared.Written.the-variants.{Bytes, Refused}
 
 -- a short output: 21, and every byte as it was
@@ -31,3 +32,12 @@ pub out-length : (f : Frame) (o : List ℕ) → length (outOf f o) ≡ length o
 unfolding outOf
 out-length (bytes w) o = kept w o (ltb (length o) (length w)) refl
 out-length (refused n) o = refl
+
+-- an answer beside its bytes tells what was to be written
+pub accepted-is : (f : Frame) (n : ℕ) → checkedOf f ≡ Accepted → f ≡ bytes (bytesOr n f)
+accepted-is (bytes w) n p = refl
+accepted-is (refused k) n p = absurd (let z : _≡_ {A = ℕ} 0 1 = cc in omega arith)
+
+pub refused-is : (f : Frame) (k : ℕ) → checkedOf f ≡ No k → f ≡ refused k
+refused-is (bytes w) k p = absurd (let z : _≡_ {A = ℕ} 0 1 = cc in omega arith)
+refused-is (refused n) k p = cc

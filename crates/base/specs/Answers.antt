@@ -2,10 +2,9 @@
 use Prim.Native.Nat.{ℕ}
 use mathlib.Core.List.{List, _++_}
 use lib.Dec.{ltb}
-use lib.ListN.{length, drop}
+use lib.ListN.{length, drop, replicate}
 use Rattle.base.specs.Pick.{pick}
 use Rattle.base.specs.Numbers.{outputShort}
-use Rattle.base.specs.declared.Written as written
 use Rattle.base.specs.declared.Written.{Written}
 use Rattle.base.specs.declared.Written.the-variants.{Bytes, Refused}
 use Rattle.base.specs.declared.Checked.{Checked}
@@ -30,6 +29,15 @@ checkedSays (checked.Refused n) a = number n
 pub data Frame : Type 0 where
   bytes : List ℕ → Frame
   refused : ℕ → Frame
+
+-- of a call that makes an array: the answer, and beside it the bytes, or n zeros where it refuses
+abbrev pub checkedOf : Frame → Checked
+checkedOf (bytes w) = checked.Accepted
+checkedOf (refused n) = checked.Refused n
+
+abbrev pub bytesOr : ℕ → Frame → List ℕ
+bytesOr n (bytes w) = w
+bytesOr n (refused k) = replicate n 0
 
 -- what a writer answers: 21 comes last, where the output has too few places
 unfoldable pub answerOf : Frame → List ℕ → Written

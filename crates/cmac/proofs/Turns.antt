@@ -1,16 +1,17 @@
 -- What a turn of `absorb` does, bytes into the block in hand or a whole block at once, and what `finish` does. Assumes nothing.
 use mathlib.Core.Path.{_≡_, sym, ap, ap₂, _∙_}
-use Prim.Native.Nat.{ℕ, suc, _+_, _≤_, _<_}
-use native.Mathlib.Nat.{add-zero}
+use Prim.Native.Nat.{ℕ, suc, _+_, _-_, _≤_, _<_}
+use native.Mathlib.Nat.{zero-add}
+use native.Mathlib.Numerals.{add-one}
 use native.Mathlib.Omega.{arith}
 use mathlib.Core.List.{List, [], _∷_, _++_, foldl, foldl-append, append-assoc, append-nil}
-use lib.Bits.{bitXor}
-use lib.ListN.{length, getD, take, drop, take-append-drop, length-append, length-drop}
-use lib.Seq.{drop-drop, length-take-le, getD-take, getD-drop, drop-cons}
+use lib.ListN.{length, getD, set, take, drop, take-append-drop, length-append, length-drop}
+use lib.Seq.{take-suc, take-all, drop-drop, length-take-le, drop-cons}
 use borrow.Author.Tests.{lt-ltb, le-ltb}
-use Rattle.base.specs.Lists.{from, added}
-use Rattle.base.proofs.Lists.{from-same, added-none, added-one, added-by-index, fold-more}
-use Rattle.cmac.specs.Cmac.{k1, k2}
+use Rattle.base.specs.Lists.{added}
+use Rattle.base.proofs.Lists.{from-zero-at, added-none, added-one, fold-more}
+use Rattle.wire.proofs.Laws.Lay.{put-whole, Laying, laying-more, laying-done}
+use Rattle.cmac.specs.Cmac.{shl, shifted, k1, k2}
 use Rattle.cmac.specs.State.{addedAt, absorb1, finished}
 use Rattle.cmac.specs.Progress.{Progress}
 use Rattle.cmac.specs.declared.Mac.{Mac}
@@ -84,21 +85,48 @@ unfolding absorb1
 fill-more E s j c x h l p =
     p ∙ fold-more (absorb1 E) s j (record { x = x; count = c }) _ l (simp (lt-ltb c 16 h))
 
--- sixteen bytes of s from i on, as the code writes them out
-pub added-slice : (x s : List ℕ) (i : ℕ) → length x ≡ 16
-    → bitXor (getD x 0 0) (getD s i 0) ∷ from 15 1 (λ k. bitXor (getD x k 0) (getD s (i + k) 0)) ≡ added x (take 16 (drop i s))
-added-slice x s i h =
-    ap (λ (n : ℕ). bitXor (getD x 0 0) (getD s n 0) ∷ from 15 1 (λ k. bitXor (getD x k 0) (getD s (i + k) 0))) (sym (add-zero i))
-    ∙ from-same 16 0 _ _ (λ k q. ap (bitXor (getD x k 0)) (sym (getD-take 16 (drop i s) k 0 (omega arith) ∙ getD-drop i s k 0)))
-    ∙ added-by-index 16 x (take 16 (drop i s)) h
+-- what is left of s from i on, as a part of it
+pub rest-is : (s : List ℕ) (i : ℕ) → take (length s - i) (drop i s) ≡ drop i s
+rest-is s i = take-all (length s - i) (drop i s) (rw length-drop (omega arith))
 
--- the end, with a block in hand that is short, and with a full one
-pub finish-short : (E : List ℕ → List ℕ) (m : Mac) {k a r : List ℕ} → m .count < 16 → r ≡ E a → a ≡ added (addedAt (m .x) (m .count) 0x80) k
-    → k ≡ k2 E → r ≡ finished E m
-unfolding finished
-finish-short E m h p q e = simp (lt-ltb (m .count) 16 h) (p ∙ ap E (q ∙ rw e))
+-- a turn of the loop that adds the bytes of s
+pub added-more : (x s : List ℕ) (i : ℕ) {y : List ℕ} → i < length s → y ≡ added x (take i s)
+    → addedAt y i (getD s i 0) ≡ added x (take (i + 1) s)
+added-more x s i h e =
+    let q : length (take i s) ≡ i = length-take-le i s (omega arith) in
+    let p = rw q at (added-one x (take i s) (getD s i 0)) in
+    rw (e, add-one, take-suc s i 0 h) p
 
-pub finish-full : (E : List ℕ → List ℕ) (m : Mac) {k a r : List ℕ} → 16 ≤ m .count → r ≡ E a → a ≡ added (m .x) k
-    → k ≡ k1 E → r ≡ finished E m
+-- the end, with a block in hand that is short, and with a full one; k is the subkey, of which the code adds 16 bytes
+pub finish-short : (E : List ℕ → List ℕ) (m : Mac) {k a r : List ℕ} → m .count < 16 → r ≡ E a
+    → a ≡ added (addedAt (m .x) (m .count) 0x80) (take 16 k) → length k ≡ 16 → k ≡ k2 E → r ≡ finished E m
 unfolding finished
-finish-full E m h p q e = simp (le-ltb (m .count) 16 h) (p ∙ ap E (q ∙ rw e))
+finish-short E m {k} h p q n e =
+    simp (lt-ltb (m .count) 16 h) (p ∙ ap E (q ∙ rw (take-all 16 k (omega arith), e)))
+
+pub finish-full : (E : List ℕ → List ℕ) (m : Mac) {k a r : List ℕ} → 16 ≤ m .count → r ≡ E a
+    → a ≡ added (m .x) (take 16 k) → length k ≡ 16 → k ≡ k1 E → r ≡ finished E m
+unfolding finished
+finish-full E m {k} h p q n e =
+    simp (le-ltb (m .count) 16 h) (p ∙ ap E (q ∙ rw (take-all 16 k (omega arith), e)))
+
+-- the shifted block, a byte after the other, over any 16 bytes o
+module _ (l o : List ℕ) (long : length o ≡ 16) where
+  fits : 0 + length (shifted l) ≤ length o
+  unfolding shifted
+  fits = omega arith
+
+  shifted-at : (i : ℕ) → i < 16 → getD (shifted l) i 0 ≡ shl (getD l i 0) (getD l (suc i) 0)
+  unfolding shifted
+  shifted-at i h = from-zero-at 16 (λ k. shl (getD l k 0) (getD l (suc k) 0)) i h
+
+  pub shift-more : (s : List ℕ) (i b : ℕ) → i < 16 → b ≡ shl (getD l i 0) (getD l (i + 1) 0) → Laying o 0 (shifted l) s i
+      → Laying o 0 (shifted l) (set s i b) (i + 1)
+  unfolding shifted
+  shift-more s i b h e p =
+      let f = rw add-one at e in
+      rw zero-add at (laying-more o 0 (shifted l) fits s i b h (f ∙ sym (shifted-at i h)) p)
+
+  pub shift-done : (s : List ℕ) → Laying o 0 (shifted l) s 16 → s ≡ shifted l
+  unfolding shifted
+  shift-done s p = laying-done o 0 (shifted l) fits s 16 (omega arith) p ∙ put-whole o (shifted l) (sym long)

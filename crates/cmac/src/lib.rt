@@ -2,7 +2,7 @@
 ghost use mathlib.Core.Path.{_≡_};
 ghost use mathlib.Core.List.{List, foldl};
 ghost use Prim.Native.Nat.{ℕ, _+_, _*_, _/_, _%_, _≤_, _<_};
-ghost use lib.ListN.{length, take, drop};
+ghost use lib.ListN.{length, take};
 ghost use Rattle.base.specs.Lists.{added};
 ghost use Rattle.fips197.specs.Aes.{aes};
 ghost use Rattle.aes128.specs.Words.{enciphered};
@@ -25,24 +25,12 @@ fn shl(a: u8, b: u8) -> u8
 fn shift(l: [u8; 16]) -> [u8; 16]
     ensures { λ r. ⌜ r ≡ shifted l ⌝ }
 {
-    [
-        shl(l[0], l[1]),
-        shl(l[1], l[2]),
-        shl(l[2], l[3]),
-        shl(l[3], l[4]),
-        shl(l[4], l[5]),
-        shl(l[5], l[6]),
-        shl(l[6], l[7]),
-        shl(l[7], l[8]),
-        shl(l[8], l[9]),
-        shl(l[9], l[10]),
-        shl(l[10], l[11]),
-        shl(l[11], l[12]),
-        shl(l[12], l[13]),
-        shl(l[13], l[14]),
-        shl(l[14], l[15]),
-        shl(l[15], 0),
-    ]
+    let mut s = [0u8; 16];
+    for i in 0usize..15 {
+        s[i] = shl(l[i], l[i + 1]);
+    }
+    s[15] = shl(l[15], 0);
+    s
 }
 
 fn double(l: [u8; 16]) -> [u8; 16]
@@ -55,52 +43,16 @@ fn double(l: [u8; 16]) -> [u8; 16]
     s
 }
 
-fn add(x: [u8; 16], k: [u8; 16]) -> [u8; 16]
-    ensures { λ r. ⌜ r ≡ added x k ⌝ }
+// The first 16 bytes of `s`, added to `x`.
+fn add(x: [u8; 16], s: &[u8]) -> [u8; 16]
+    requires { ⌜ 16 ≤ length (now s) ⌝ }
+    ensures { λ r. ⌜ r ≡ added x (take 16 (now (s .entry))) ⌝ }
 {
-    [
-        x[0] ^ k[0],
-        x[1] ^ k[1],
-        x[2] ^ k[2],
-        x[3] ^ k[3],
-        x[4] ^ k[4],
-        x[5] ^ k[5],
-        x[6] ^ k[6],
-        x[7] ^ k[7],
-        x[8] ^ k[8],
-        x[9] ^ k[9],
-        x[10] ^ k[10],
-        x[11] ^ k[11],
-        x[12] ^ k[12],
-        x[13] ^ k[13],
-        x[14] ^ k[14],
-        x[15] ^ k[15],
-    ]
-}
-
-// The 16 bytes of `s` from `i` on, added to `x`.
-fn add_part(x: [u8; 16], s: &[u8], i: usize) -> [u8; 16]
-    requires { ⌜ i + 16 ≤ length (now s) ⌝ }
-    ensures { λ r. ⌜ r ≡ added x (take 16 (drop i (now (s .entry)))) ⌝ }
-{
-    [
-        x[0] ^ s[i],
-        x[1] ^ s[i + 1],
-        x[2] ^ s[i + 2],
-        x[3] ^ s[i + 3],
-        x[4] ^ s[i + 4],
-        x[5] ^ s[i + 5],
-        x[6] ^ s[i + 6],
-        x[7] ^ s[i + 7],
-        x[8] ^ s[i + 8],
-        x[9] ^ s[i + 9],
-        x[10] ^ s[i + 10],
-        x[11] ^ s[i + 11],
-        x[12] ^ s[i + 12],
-        x[13] ^ s[i + 13],
-        x[14] ^ s[i + 14],
-        x[15] ^ s[i + 15],
-    ]
+    let mut y = x;
+    for i in 0usize..16 {
+        y[i] = y[i] ^ s[i];
+    }
+    y
 }
 
 // Section 2.3's K1, for a last block that is whole.
@@ -161,7 +113,7 @@ fn turn(m: Mac, e: &Cipher, s: &[u8], i: usize) -> Went
     let x = m.x;
     let y = encipher(e, x);
     if 16 <= s.len() - i {
-        let z = add_part(y, s, i);
+        let z = add(y, &s[i..]);
         let n = Mac { x: z, count: 16 };
         return Went {
             mac: n,
@@ -205,9 +157,11 @@ impl Mac {
         let mut x = self.x;
         if count < 16 {
             x[count] = x[count] ^ 0x80;
-            return encipher(e, add(x, subkey2(e)));
+            let k2 = subkey2(e);
+            return encipher(e, add(x, &k2));
         }
-        encipher(e, add(x, subkey1(e)))
+        let k1 = subkey1(e);
+        encipher(e, add(x, &k1))
     }
 }
 

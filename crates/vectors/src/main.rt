@@ -105,12 +105,15 @@ fn sp800_38a() {
     );
 }
 
-// The four examples, and the two longer ones again in pieces that end inside a block, at its end and nowhere.
 fn tags(key: Aes128Key, m: &[u8]) {
     line(b"RFC 4493 example 1       ", cmac(key, part(m, 0, 0)));
     line(b"RFC 4493 example 2       ", cmac(key, part(m, 0, 16)));
     line(b"RFC 4493 example 3       ", cmac(key, part(m, 0, 40)));
     line(b"RFC 4493 example 4       ", cmac(key, m));
+}
+
+// The two longer examples again, in pieces that end inside a block, at its end and nowhere.
+fn pieces(key: Aes128Key, m: &[u8]) {
     let e = prepare(key);
     let a = Mac::start().absorb(&e, part(m, 0, 7));
     let b = a.absorb(&e, part(m, 7, 25));
@@ -125,6 +128,11 @@ fn tags(key: Aes128Key, m: &[u8]) {
     );
 }
 
+fn both(key: Aes128Key, m: &[u8]) {
+    tags(key, m);
+    pieces(key, m);
+}
+
 fn rfc4493() {
     let key = key_of(b"2b7e151628aed2a6abf7158809cf4f3c");
     let e = prepare(key);
@@ -135,7 +143,7 @@ fn rfc4493() {
         b"6bc1bee22e409f96e93d7e117393172aae2d8a571e03ac9c9eb76fac45af8e5130c81c46a35ce411e5fbc1191a0a52eff69f2445df4f9b17ad2b417be66c3710",
         &mut m,
     );
-    tags(key, &m);
+    both(key, &m);
 }
 
 fn keys() {
@@ -149,6 +157,9 @@ fn keys() {
         b"encryption key           ",
         get_encryption_key(root).to_bytes(),
     );
+}
+
+fn key_lengths() {
     let some = [7u8; 17];
     key_read(
         b"key of no bytes          ",
@@ -163,29 +174,37 @@ fn keys() {
         Aes128Key::from_slice(part(&some, 0, 16)),
     );
     key_read(b"key of 17 bytes          ", Aes128Key::from_slice(&some));
-    key_read(
+}
+
+// A text, with the label before it.
+fn text(label: &[u8], digits: &[u8]) {
+    key_read(label, Aes128Key::from_str(digits));
+}
+
+fn key_texts() {
+    text(
         b"text in upper case       ",
-        Aes128Key::from_str(b"2B7E151628AED2A6ABF7158809CF4F3C"),
+        b"2B7E151628AED2A6ABF7158809CF4F3C",
     );
-    key_read(
+    text(
         b"text of 31 digits        ",
-        Aes128Key::from_str(b"2b7e151628aed2a6abf7158809cf4f3"),
+        b"2b7e151628aed2a6abf7158809cf4f3",
     );
-    key_read(
+    text(
         b"text of 33 digits        ",
-        Aes128Key::from_str(b"2b7e151628aed2a6abf7158809cf4f3c0"),
+        b"2b7e151628aed2a6abf7158809cf4f3c0",
     );
-    key_read(
+    text(
         b"text of 31, one no digit ",
-        Aes128Key::from_str(b"2g7e151628aed2a6abf7158809cf4f3"),
+        b"2g7e151628aed2a6abf7158809cf4f3",
     );
-    key_read(
+    text(
         b"text with a g            ",
-        Aes128Key::from_str(b"2b7e151628aed2a6abf7158809cf4f3g"),
+        b"2b7e151628aed2a6abf7158809cf4f3g",
     );
-    key_read(
+    text(
         b"text with a blank        ",
-        Aes128Key::from_str(b" b7e151628aed2a6abf7158809cf4f3c"),
+        b" b7e151628aed2a6abf7158809cf4f3c",
     );
 }
 
@@ -214,7 +233,7 @@ fn every_byte() {
 }
 
 // A refusal leaves the output as it was; a success leaves what is beyond the written bytes.
-fn outputs() {
+fn short_outputs() {
     let key = key_of(b"2b7e151628aed2a6abf7158809cf4f3c");
     let mut short = [0xaau8; 15];
     written(b"key into 15 bytes        ", key.write(&mut short));
@@ -224,6 +243,10 @@ fn outputs() {
         b"the output               ",
         Aes128Key::from_slice(part(&shorter, 0, 16)),
     );
+}
+
+fn long_outputs() {
+    let key = key_of(b"2b7e151628aed2a6abf7158809cf4f3c");
     let mut out = [0xaau8; 48];
     written(b"text into 48 bytes       ", key.write_text(&mut out));
     key_read(
@@ -234,6 +257,10 @@ fn outputs() {
         b"what is beyond           ",
         Aes128Key::from_slice(part(&out, 32, 16)),
     );
+}
+
+fn whole_output() {
+    let key = key_of(b"2b7e151628aed2a6abf7158809cf4f3c");
     let mut whole = [0xaau8; 16];
     written(b"key into 16 bytes        ", key.write(&mut whole));
     key_read(b"the key again            ", Aes128Key::from_slice(&whole));
@@ -244,6 +271,10 @@ fn main() {
     sp800_38a();
     rfc4493();
     keys();
+    key_lengths();
+    key_texts();
     every_byte();
-    outputs();
+    short_outputs();
+    long_outputs();
+    whole_output();
 }

@@ -1,39 +1,33 @@
 -- `cmac::shift` meets its contract. Assumes nothing.
-use Prim.Native.Nat.{ℕ}
+use Prim.Native.Nat.{_-_, _≤_}
 use lib.ListN.{length, getD, List·getD-eq-default}
-use Rattle.base.proofs.Lists.{_◂_}
+use Rattle.wire.proofs.Laws.Lay.{Laying, laying-none}
 use Rattle.cmac.specs.Cmac.{shl, shifted}
+use Rattle.cmac.proofs.Turns.{shift-more, shift-done}
 use borrow.Author.Needs.{needs}
 use native.Mathlib.Omega.{arith}
 use mathlib.Core.Path.{_≡_, refl, sym, ap, _∙_}
 use Rattle.cmac.proofs.shift.Statement.{statement}
 use Rattle.cmac.proofs.shift.Tie as tie
 
-returns : tie.Need-returns
-unfolding shifted
-returns c = let l = c .before .before .before .before .before .before .before .before .before .before .before .before .before .before .before .before .args .t1 in
-    let n : length l ≡ 16 = search needs in
-    let z : getD l 16 0 ≡ 0 = List·getD-eq-default l 0 (omega arith) in
-    let c16 = c in
-    let c15 = c16 .before in
-    let c14 = c15 .before in
-    let c13 = c14 .before in
-    let c12 = c13 .before in
-    let c11 = c12 .before in
-    let c10 = c11 .before in
-    let c9 = c10 .before in
-    let c8 = c9 .before in
-    let c7 = c8 .before in
-    let c6 = c7 .before in
-    let c5 = c6 .before in
-    let c4 = c5 .before in
-    let c3 = c4 .before in
-    let c2 = c3 .before in
-    let c1 = c2 .before in
-    c1 .shl .ensures ◂ c2 .shl2 .ensures ◂ c3 .shl3 .ensures ◂ c4 .shl4 .ensures ◂ c5 .shl5 .ensures
-    ◂ c6 .shl6 .ensures ◂ c7 .shl7 .ensures ◂ c8 .shl8 .ensures ◂ c9 .shl9 .ensures ◂ c10 .shl10 .ensures
-    ◂ c11 .shl11 .ensures ◂ c12 .shl12 .ensures ◂ c13 .shl13 .ensures ◂ c14 .shl14 .ensures ◂ c15 .shl15 .ensures
-    ◂ (c16 .shl16 .ensures ∙ ap (λ (b : ℕ). shl (getD l 15 0) b) (sym z)) ◂ refl
+abbrev Inv-loop : tie.InvT-loop
+Inv-loop l s₀ i₀ s i = (i ≤ 15) × Laying s₀ 0 (shifted l) s i
+
+abbrev μ-loop : tie.MeasureT-loop
+μ-loop l s₀ i₀ s i = 15 - i
+
+loop-holds : tie.Need-loop-holds Inv-loop μ-loop
+loop-holds c = (omega arith, laying-none _ _ _)
+
+loop-again : tie.Need-loop-again Inv-loop μ-loop
+loop-again c = (omega arith, shift-more _ _ refl _ (c .before .before .loop .i) _ (omega arith) (c .shl .ensures) (c .before .before .loop .inv .1))
+
+returns : tie.Need-returns Inv-loop μ-loop
+returns c = let e : c .before .before .loop .i ≡ 15 = omega arith in
+    let p = rw e at (c .before .before .loop .inv .1) in
+    let n : length (c .before .before .before .args .t1) ≡ 16 = search needs in
+    let z : getD (c .before .before .before .args .t1) 16 0 ≡ 0 = List·getD-eq-default (c .before .before .before .args .t1) 0 (omega arith) in
+    shift-done _ _ refl _ (shift-more _ _ refl _ 15 _ (omega arith) (c .shl2 .ensures ∙ ap (shl (getD (c .before .before .before .args .t1) 15 0)) (sym z)) p)
 
 pub shift-spec : {M : Type 1} → statement M
-shift-spec = tie.close (tie.spec (λ c. search needs) (λ c. search needs) (λ c κs. search needs) (λ c. search needs) (λ c. search needs) (λ c κs. search needs) (λ c. search needs) (λ c. search needs) (λ c κs. search needs) (λ c. search needs) (λ c. search needs) (λ c κs. search needs) (λ c. search needs) (λ c. search needs) (λ c κs. search needs) (λ c. search needs) (λ c. search needs) (λ c κs. search needs) (λ c. search needs) (λ c. search needs) (λ c κs. search needs) (λ c. search needs) (λ c. search needs) (λ c κs. search needs) (λ c. search needs) (λ c. search needs) (λ c κs. search needs) (λ c. search needs) (λ c. search needs) (λ c κs. search needs) (λ c. search needs) (λ c. search needs) (λ c κs. search needs) (λ c. search needs) (λ c. search needs) (λ c κs. search needs) (λ c. search needs) (λ c. search needs) (λ c κs. search needs) (λ c. search needs) (λ c. search needs) (λ c κs. search needs) (λ c. search needs) (λ c. search needs) (λ c κs. search needs) (λ c. search needs) (λ c κs. search needs) returns)
+shift-spec = tie.close (tie.spec Inv-loop μ-loop loop-holds (λ c. search needs) (λ c. search needs) (λ c. search needs) (λ c κs. search needs) (λ c. search needs) (λ c. search needs) (λ c. search needs) loop-again (λ c. search needs) (λ c κs. search needs) (λ c. search needs) returns)

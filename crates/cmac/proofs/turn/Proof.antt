@@ -1,9 +1,9 @@
 -- `cmac::turn` meets its contract. Assumes nothing.
-use Prim.Native.Nat.{ℕ}
+use Prim.Native.Nat.{ℕ, _-_}
 use mathlib.Core.List.{List}
-use lib.ListN.{take, drop}
+use lib.ListN.{take, drop, length-drop}
 use Rattle.base.specs.Lists.{added}
-use Rattle.cmac.proofs.Turns.{by-block, flushed}
+use Rattle.cmac.proofs.Turns.{rest-is, by-block, flushed}
 use borrow.Author.Needs.{needs}
 use native.Mathlib.Omega.{arith}
 use mathlib.Core.Path.{ap, _∙_}
@@ -14,14 +14,18 @@ use Rattle.cmac.proofs.turn.Tie as tie
 returns : tie.Need-returns
 returns c = c .run .ensures _
 
+add-requires : tie.Need-add-requires
+add-requires c κs = rw (rest-is, length-drop) (omega arith)
+
 returns-2 : tie.Need-returns-2
-returns-2 c = let a = c .before .before .before .before .before .before .args in
+returns-2 c = let a = c .before .before .before .before .before .before .before .args in
     by-block _ (now (a .s)) (a .i) (a .m) _ (omega arith) (omega arith)
-    (c .add-part .ensures ∙ ap (λ (z : List ℕ). added z (take 16 (drop (a .i) (now (a .s))))) (c .before .before .encipher .ensures))
+    (c .add .ensures ∙ ap (λ (l : List ℕ). added (c .before .before .before .encipher .result) (take 16 l)) (rest-is (now (a .s)) (a .i))
+    ∙ ap (λ (z : List ℕ). added z (take 16 (drop (a .i) (now (a .s))))) (c .before .before .before .encipher .ensures))
 
 returns-3 : tie.Need-returns-3
 returns-3 c = let a = c .before .before .before .before .before .before .args in
     flushed _ (now (a .s)) (a .m) _ (a .i) (omega arith) (omega arith) (c .before .before .encipher .ensures) (c .run2 .ensures _)
 
 pub turn-spec : {M : Type 1} → statement M
-turn-spec = tie.close (tie.spec (λ c κs. search needs) returns (λ c κs. search needs) (λ c. search needs) (λ c κs. search needs) (λ c. search needs) returns-2 (λ c κs. search needs) returns-3)
+turn-spec = tie.close (tie.spec (λ c κs. search needs) returns (λ c κs. search needs) (λ c. search needs) (λ c. search needs) (λ c. search needs) (λ c. search needs) add-requires (λ c. search needs) returns-2 (λ c κs. search needs) returns-3)
