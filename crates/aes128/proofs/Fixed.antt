@@ -18,10 +18,8 @@ use Rattle.aes128.proofs.Aes128Key.from_str.Kinds as from-str-kinds
 use Rattle.aes128.proofs.Aes128Key.from_str.Reads as from-str-reads
 use Rattle.aes128.proofs.Aes128Key.write_text.Kinds as write-text-kinds
 use Rattle.aes128.proofs.Aes128Key.write_text.Reads as write-text-reads
-use Rattle.aes128.proofs.cipher.prepare.Kinds as prepare-kinds
-use Rattle.aes128.proofs.cipher.prepare.Reads as prepare-reads
-use Rattle.aes128.proofs.cipher.encipher.Kinds as encipher-kinds
-use Rattle.aes128.proofs.cipher.encipher.Reads as encipher-reads
+use Rattle.aes128.proofs.prepare.Kinds as prepare-kinds
+use Rattle.aes128.proofs.prepare.Reads as prepare-reads
 use Rattle.aes128.proofs.encrypt_block.Kinds as encrypt-block-kinds
 use Rattle.aes128.proofs.encrypt_block.Reads as encrypt-block-reads
 use Rattle.aes128.proofs.get_signing_key.Kinds as get-signing-key-kinds
@@ -52,9 +50,6 @@ write-text κs a x y v w p q = (p .0 ∙ sym (q .0), ap (λ (l : List ℕ). (tt,
 
 prepare : Fixed 0 prepare-kinds.ps prepare-kinds.r prepare-reads.Post
 prepare κs a x y v w p q = (p ∙ sym q, refl)
-
-encipher : Fixed 1 encipher-kinds.ps encipher-kinds.r encipher-reads.Post
-encipher κs a x y v w p q = (p ∙ sym q, refl)
 
 encrypt-block : Fixed 0 encrypt-block-kinds.ps encrypt-block-kinds.r encrypt-block-reads.Post
 encrypt-block κs a x y v w p q = (p ∙ sym q, refl)

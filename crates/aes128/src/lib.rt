@@ -1,17 +1,15 @@
-// Keys of AES-128, their text, and the keys derived from a root key (src/aes128.rs of the Rust); FIPS 197 itself is in cipher.rt.
-mod cipher;
-
-pub use cipher::Cipher;
-pub use cipher::encipher;
-pub use cipher::prepare;
+// Keys of AES-128, their text, and the keys derived from a root key (src/aes128.rs of the Rust).
 ghost use mathlib.Core.Path.{_≡_};
 ghost use Rattle.base.specs.Answers.{bytes, answerOf, outOf};
 ghost use Rattle.wire.specs.Hex.{hexText};
 ghost use Rattle.fips197.specs.Aes.{aes};
+ghost use Rattle.cipher.specs.Words.{prepared};
 ghost use Rattle.aes128.specs.Key.{keyOf, nullKey, keyRead, keyRefused, keyFromSlice, keyFromText, signingKey, encryptionKey};
 use base::Checked;
 use base::Refusal;
 use base::Written;
+use cipher::Cipher;
+use cipher::encipher;
 use wire::emit;
 use wire::is_hex;
 use wire::put_all;
@@ -119,6 +117,13 @@ impl Aes128Key {
         write_hex(&k, out, 0);
         Written::Bytes(Aes128Key::TEXT_LENGTH)
     }
+}
+
+// The cipher made ready for a key.
+pub fn prepare(key: Aes128Key) -> Cipher
+    ensures { λ r. ⌜ r ≡ prepared (key .0) ⌝ }
+{
+    cipher::prepare(key.to_bytes())
 }
 
 // One block under a key. Whoever enciphers more under one key prepares it once.

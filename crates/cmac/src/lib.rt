@@ -5,15 +5,15 @@ ghost use Prim.Native.Nat.{ℕ, _+_, _*_, _/_, _%_, _≤_, _<_};
 ghost use lib.ListN.{length, take};
 ghost use Rattle.base.specs.Lists.{added};
 ghost use Rattle.fips197.specs.Aes.{aes};
-ghost use Rattle.aes128.specs.Words.{enciphered};
+ghost use Rattle.cipher.specs.Words.{enciphered};
 ghost use Rattle.cmac.specs.Cmac.{shl, shifted, doubled, k1, k2, tag};
 ghost use Rattle.cmac.specs.State.{begun, absorb1, finished};
 ghost use Rattle.cmac.specs.Progress.{Progress};
 use aes128::Aes128Key;
-use aes128::Cipher;
-use aes128::encipher;
 use aes128::prepare;
 use base::least;
+use cipher::Cipher;
+use cipher::encipher;
 
 // A byte of a block that is shifted left by a bit: `b` is the byte after `a`.
 fn shl(a: u8, b: u8) -> u8

@@ -1,13 +1,13 @@
 // The face for C and Rust: exported functions on numbers and slices, each proved like any other. include/mesh.h declares them.
 ghost use mathlib.Core.Path.{_≡_};
 ghost use Rattle.fips197.specs.Aes.{aes};
-ghost use Rattle.aes128.specs.Words.{prepared, enciphered};
+ghost use Rattle.cipher.specs.Words.{prepared, enciphered};
 ghost use Rattle.cmac.specs.Cmac.{tag};
 use aes128::Aes128Key;
-use aes128::Cipher;
-use aes128::encipher;
 use aes128::encrypt_block;
 use aes128::prepare;
+use cipher::Cipher;
+use cipher::encipher;
 use cmac::Mac;
 use cmac::cmac;
 

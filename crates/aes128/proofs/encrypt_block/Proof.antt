@@ -5,8 +5,8 @@ use lib.ListN.{length, getD}
 use mathlib.Core.List.{List}
 use Prim.Native.Nat.{ℕ}
 use Rattle.base.specs.Lists.{Bytes}
-use Rattle.aes128.specs.Words.{enciphered}
-use Rattle.aes128.proofs.Bridge.{columns-are-bytes}
+use Rattle.cipher.specs.Words.{enciphered}
+use Rattle.cipher.proofs.Bridge.{columns-are-bytes}
 use borrow.Author.Needs.{needs}
 use mathlib.Core.Path.{ap, _∙_}
 use Rattle.aes128.proofs.encrypt_block.Statement.{statement}

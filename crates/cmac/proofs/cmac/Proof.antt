@@ -5,8 +5,8 @@ use mir.Val.{Fits}
 use mir.Syntax.{w8}
 use lib.ListN.{length, getD}
 use Rattle.base.specs.Blocks.{Block}
-use Rattle.aes128.specs.Words.{enciphered}
-use Rattle.aes128.proofs.Laws.{prepared-agrees}
+use Rattle.cipher.specs.Words.{enciphered}
+use Rattle.cipher.proofs.Laws.{prepared-agrees}
 use Rattle.cmac.specs.Cmac.{tag}
 use Rattle.cmac.specs.State.{absorb1, finished}
 use Rattle.cmac.specs.declared.Mac.{Mac}

@@ -1,5 +1,5 @@
 -- `mesh_c::mesh_mac` meets its contract. Assumes nothing.
-use Rattle.aes128.specs.Words.{enciphered}
+use Rattle.cipher.specs.Words.{enciphered}
 use Rattle.cmac.specs.State.{finished}
 use Rattle.cmac.proofs.Laws.{finish-tag}
 use borrow.Author.Needs.{needs}

@@ -3,7 +3,7 @@ use Prim.Native.Nat.{_-_, _≤_}
 use mathlib.Core.List.{foldl}
 use lib.ListN.{length, drop}
 use lib.Seq.{drop-length}
-use Rattle.aes128.specs.Words.{enciphered}
+use Rattle.cipher.specs.Words.{enciphered}
 use Rattle.cmac.specs.State.{absorb1}
 use borrow.Author.Needs.{needs}
 use native.Mathlib.Omega.{arith}

@@ -1,0 +1,23 @@
+-- `cipher::prepare` meets its contract. Assumes nothing.
+use lib.ListN.{length, replicate}
+use mathlib.Core.List.{List}
+use Prim.Native.Nat.{ℕ}
+use Rattle.wire.specs.Lay.{put}
+use Rattle.wire.proofs.Laws.Lay.{put-length}
+use Rattle.cipher.specs.Words.{keyWords}
+use Rattle.cipher.proofs.Laws.{laid-out}
+use borrow.Author.Needs.{needs}
+use mathlib.Core.Path.{refl, ap, _∙_}
+use Rattle.cipher.proofs.prepare.Statement.{statement}
+use Rattle.cipher.proofs.prepare.Tie as tie
+
+lay-keys-requires : tie.Need-lay-keys-requires
+lay-keys-requires c κs = ap length (c .before .lay-table .ensures) ∙ put-length _ _ _
+
+returns : tie.Need-returns
+returns c = c .lay-keys .ensures
+    ∙ ap (λ (o : List ℕ). put o 256 (keyWords (c .before .before .before .before .args .key))) (c .before .before .lay-table .ensures)
+    ∙ laid-out (replicate 300 0) _ refl
+
+pub prepare-spec : {M : Type 1} → statement M
+prepare-spec = tie.close (tie.spec (λ c κs. search needs) lay-keys-requires returns)
