@@ -1,0 +1,6 @@
+pub mod Bytes
+pub mod Header
+pub mod Signal
+pub mod Freq
+pub mod Meta
+pub mod Path

@@ -1,0 +1,5 @@
+pub mod Header
+pub mod Freq
+pub mod Signal
+pub mod Meta
+pub mod Path

@@ -1,0 +1,28 @@
+-- An entry of a heartbeat's path in six bytes: relay id, rssi, snr. Assumes nothing.
+use Prim.Native.Nat.{ℕ}
+use mathlib.Core.List.{List, [], _∷_}
+use lib.ListN.{getD}
+use Rattle.base.specs.Answers.{Frame, checkedOf, bytesOr}
+use Rattle.wire.specs.Number.{beOf, beBytes}
+use Rattle.fields.specs.Signal.{rssiOf, snrOf, rssiByte, snrByte}
+use Rattle.fields.specs.Meta.{afterRssi}
+use Rattle.fields.specs.declared.path.RelayPath.{RelayPath}
+use Rattle.fields.specs.declared.path.PathBytes.{PathBytes}
+
+abbrev pub pathOf : List ℕ → RelayPath
+pathOf b =
+    record {
+      «relay_id» = beOf (getD b 0 0 ∷ getD b 1 0 ∷ getD b 2 0 ∷ getD b 3 0 ∷ []);
+      rssi = rssiOf (getD b 4 0);
+      snr = snrOf (getD b 5 0);
+    }
+
+-- 10 to 13
+unfoldable pub pathWire : RelayPath → Frame
+pathWire p = afterRssi (beBytes 4 (p .«relay_id»)) [] (snrByte (p .snr)) (rssiByte (p .rssi))
+
+abbrev pub pathAnswer : Frame → PathBytes
+pathAnswer f = record { answer = checkedOf f; bytes = bytesOr 6 f }
+
+unfoldable pub pathBytes : RelayPath → PathBytes
+pathBytes p = pathAnswer (pathWire p)

@@ -1,0 +1,30 @@
+-- Rssi is minus the byte; snr the low six bits as a signed number, -32 to 31. `pos n` is n, and `negsuc n` is -(n + 1). Assumes nothing.
+use Prim.Native.Nat.{ℕ, zero, suc, _+_, _-_, _%_}
+use lib.IntN.{ℤ, pos, negsuc, negℤ}
+use lib.Dec.{ltb}
+use Rattle.base.specs.Pick.{pick}
+use Rattle.base.specs.Numbers.{rssiLarge, rssiSmall, snrSmall, snrLarge}
+use Rattle.base.specs.Answers.{Answer, value, number}
+use Rattle.fields.specs.declared.signal.SignalByte.{SignalByte}
+use Rattle.fields.specs.declared.signal.SignalByte.the-variants.{Byte, Refused}
+
+unfoldable pub rssiOf : ℕ → ℤ
+rssiOf b = negℤ (pos b)
+
+unfoldable pub snrOf : ℕ → ℤ
+snrOf b = pick (ltb (b % 64) 32) (pos (b % 64)) (negℤ (pos (64 - b % 64)))
+
+-- 10 over 0, 11 under -255
+unfoldable pub rssiByte : ℤ → SignalByte
+rssiByte (pos zero) = Byte 0
+rssiByte (pos (suc n)) = Refused rssiLarge
+rssiByte (negsuc n) = pick (ltb n 255) (Byte (n + 1)) (Refused rssiSmall)
+
+-- 12 under -32, 13 over 31; of -1 to -32 the six bits are 63 to 32
+unfoldable pub snrByte : ℤ → SignalByte
+snrByte (pos n) = pick (ltb n 32) (Byte n) (Refused snrLarge)
+snrByte (negsuc n) = pick (ltb n 32) (Byte (63 - n)) (Refused snrSmall)
+
+abbrev pub signalSays : SignalByte → Answer ℕ
+signalSays (Byte b) = value b
+signalSays (Refused n) = number n

@@ -1,0 +1,31 @@
+// The fields of a frame: header byte, frequency, rssi and snr, both metadata forms, and the six bytes of a path entry.
+mod freq;
+mod header;
+mod meta;
+mod path;
+mod signal;
+
+pub use freq::FreqBytes;
+pub use freq::FreqRead;
+pub use freq::Frequency;
+pub use freq::decode_freq;
+pub use freq::encode_freq;
+pub use header::HeaderByte;
+pub use header::HeaderRead;
+pub use header::HopCount;
+pub use header::MHDR;
+pub use header::PayloadType;
+pub use header::TypeRead;
+pub use meta::Delay;
+pub use meta::DownlinkBytes;
+pub use meta::DownlinkMetadata;
+pub use meta::Dr;
+pub use meta::TxPower;
+pub use meta::UplinkBytes;
+pub use meta::UplinkId;
+pub use meta::UplinkMetadata;
+pub use path::PathBytes;
+pub use path::RelayPath;
+pub use signal::Rssi;
+pub use signal::SignalByte;
+pub use signal::Snr;

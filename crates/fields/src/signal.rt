@@ -1,0 +1,65 @@
+// Rssi is minus a byte; snr the low six bits of one as a signed number. Uplinks and path entries read and write them here.
+ghost use mathlib.Core.Path.{_≡_};
+ghost use Rattle.fields.specs.Signal.{rssiOf, snrOf, rssiByte, snrByte};
+use base::Refusal;
+
+pub struct Rssi;
+
+impl Rssi {
+    pub const LEAST: i16 = -255;
+
+    pub const MOST: i16 = 0;
+}
+
+pub struct Snr;
+
+impl Snr {
+    pub const LEAST: i8 = -32;
+
+    pub const MOST: i8 = 31;
+}
+
+pub enum SignalByte {
+    Byte(u8),
+    Refused(u8),
+}
+
+pub fn rssi_of(b: u8) -> i16
+    ensures { λ r. ⌜ r ≡ rssiOf b ⌝ }
+{
+    -(b as i16)
+}
+
+pub fn snr_of(b: u8) -> i8
+    ensures { λ r. ⌜ r ≡ snrOf b ⌝ }
+{
+    let n = b % 64;
+    if n < 32 { n as i8 } else { -((64 - n) as i8) }
+}
+
+pub fn rssi_byte(x: i16) -> SignalByte
+    ensures { λ r. ⌜ r ≡ rssiByte x ⌝ }
+{
+    if Rssi::MOST < x {
+        return SignalByte::Refused(Refusal::RSSI_LARGE);
+    }
+    if x < Rssi::LEAST {
+        return SignalByte::Refused(Refusal::RSSI_SMALL);
+    }
+    SignalByte::Byte((-x) as u8)
+}
+
+pub fn snr_byte(x: i8) -> SignalByte
+    ensures { λ r. ⌜ r ≡ snrByte x ⌝ }
+{
+    if x < Snr::LEAST {
+        return SignalByte::Refused(Refusal::SNR_SMALL);
+    }
+    if Snr::MOST < x {
+        return SignalByte::Refused(Refusal::SNR_LARGE);
+    }
+    if x < 0 {
+        return SignalByte::Byte((x + 64) as u8);
+    }
+    SignalByte::Byte(x as u8)
+}
