@@ -1,0 +1,167 @@
+-- What is written and accepted reads back as the same packet: the payload by its bytes and not by its place, and a downlink's frequency as
+-- its three bytes mean it. Said for a header whose type is the payload's kind, and for LoRa frames of at least one byte whose first does not
+-- begin with 111. The bounds are those of the fields' types. Assumes nothing.
+use Prim.Native.Nat.{ℕ, zero, suc, _+_, _-_, _/_, _≤_, _<_}
+use native.Mathlib.Nat.{min-le-left}
+use native.Mathlib.Omega.{arith}
+use mathlib.Core.Bool.{Bool, true, false}
+use mathlib.Core.Path.{_≡_, refl, sym, ap, ap₂, subst, _∙_}
+use mathlib.Core.List.{List, [], _∷_, _++_, append-assoc}
+use lib.Dec.{ltb, eqb}
+use lib.ListN.{length, getD, take, drop, length-append, length-take}
+use lib.Seq.{drop-at, take-append-seam}
+use borrow.Author.Tests.{le-ltb, ne-eqb, ltb-false}
+use Rattle.base.specs.Pick.{pick}
+use Rattle.base.specs.Answers.{Frame, bytes, refused}
+use Rattle.wire.specs.Number.{beBytes}
+use Rattle.wire.specs.Part.{partOf}
+use Rattle.fields.specs.declared.header.MHDR.{MHDR}
+use Rattle.fields.specs.declared.header.PayloadType.{PayloadType}
+use Rattle.fields.specs.declared.header.PayloadType.the-variants.{Uplink, Downlink, Event, Command}
+use Rattle.fields.proofs.Laws.Header.{header-back}
+use Rattle.payloads.specs.Run.{runRefusal, runBytes}
+use Rattle.payloads.specs.Read.{bodyOf, uplinkAt, downlinkAt, eventAt, commandAt}
+use Rattle.payloads.specs.Write.{runOf, stamp, uplinkHead, uplinkWire, downlinkHead, downlinkWire, stampedWire, eventWire, commandWire}
+use Rattle.payloads.specs.declared.run.Run.{Run}
+use Rattle.payloads.specs.declared.uplink.UplinkPayload.{UplinkPayload}
+use Rattle.payloads.specs.declared.downlink.DownlinkPayload.{DownlinkPayload}
+use Rattle.payloads.specs.declared.sealed.EventPayload.{EventPayload}
+use Rattle.payloads.specs.declared.sealed.CommandPayload.{CommandPayload}
+use Rattle.payloads.proofs.Laws.{unless-bytes, run-bytes, uplink-length, downlink-length, stamp-length, uplink-read-back, heard, downlink-read-back, event-read-back, command-read-back}
+use Rattle.packets.specs.Read.{ofUplink, ofDownlink, ofEvent, ofCommand, payloadAt, meshOf, packetOf}
+use Rattle.packets.specs.Write.{payloadWire, meshFrame, loraFrame}
+use Rattle.packets.specs.declared.mesh.Payload.{Payload}
+use Rattle.packets.specs.declared.mesh.Payload.the-variants.{Uplink as AnUplink, Downlink as ADownlink, Event as AnEvent, Command as ACommand}
+use Rattle.packets.specs.declared.mesh.PayloadRead.{PayloadRead}
+use Rattle.packets.specs.declared.mesh.PayloadRead.the-variants.{Payload as PayloadIs}
+use Rattle.packets.specs.declared.mesh.MeshPacket.{MeshPacket}
+use Rattle.packets.specs.declared.mesh.MeshRead.the-variants.{Mesh}
+use Rattle.packets.specs.declared.any.Packet.the-variants.{Lora}
+use Rattle.packets.specs.declared.any.PacketRead.the-variants.{Packet as PacketIs}
+use Rattle.packets.proofs.Trip.{Made, made, readAs, frame-read}
+
+-- the part behind x is v
+part-behind : (x v y : List ℕ) (n : ℕ) → length x ≡ n → partOf ((x ++ v) ++ y) n (length v) ≡ v
+unfolding partOf
+part-behind x v y n e =
+    let l : length ((x ++ v) ++ y) ≡ length x + length v + length y = simp length-append in
+    simp (le-ltb (length ((x ++ v) ++ y)) n (omega arith), le-ltb (length ((x ++ v) ++ y) - n) (length v) (omega arith))
+    (ap (take (length v)) (ap (drop n) (append-assoc x v y) ∙ drop-at x (v ++ y) n e) ∙ take-append-seam v y)
+
+-- a packet as it was, but for the payload
+abbrev pub holding : MeshPacket → Payload → MeshPacket
+holding p q = record { mhdr = p .mhdr; payload = q; «has_mic» = true; mic = p .mic }
+
+abbrev pub at : ℕ → List ℕ → Run
+at n v = record { start = n; len = length v }
+
+module _ (s w : List ℕ) (p : MeshPacket) (written : meshFrame s p ≡ bytes w) (small : p .mic < 4294967296) where
+  k : Made s p w
+  k = made s p w written
+
+  -- by the body that was written
+  read : (t : PayloadType) → p .mhdr .«payload_type» ≡ t → (q : Payload) → payloadAt t (k .body) ≡ PayloadIs q → meshOf w ≡ Mesh (holding p q)
+  read t et q e =
+      ap meshOf (k .is)
+      ∙ frame-read (k .byte) (p .mic) (k .body) (k .fits) small (p .mhdr) (header-back (p .mhdr) (k .byte) (k .header))
+      ∙ ap (λ (x : PayloadType). readAs (p .mhdr) (p .mic) (payloadAt x (k .body))) et
+      ∙ ap (readAs (p .mhdr) (p .mic)) e
+
+  -- the run, where it lies now
+  run-in : (h v : List ℕ) (n : ℕ) → k .body ≡ h ++ v → length h + 1 ≡ n → runBytes w (at n v) ≡ v
+  run-in h v n e l =
+      let i : length (k .byte ∷ h) ≡ n = omega arith in
+      ap (λ (x : List ℕ). partOf x n (length v)) (k .is ∙ ap (λ (x : List ℕ). (k .byte ∷ x) ++ beBytes 4 (p .mic)) e)
+      ∙ part-behind (k .byte ∷ h) v (beBytes 4 (p .mic)) n i
+
+  fits : (h v : List ℕ) → k .body ≡ h ++ v → length h + length v ≤ 8187
+  fits h v e = let f = k .fits in let l : length (k .body) ≡ length h + length v = ap length e ∙ length-append h v in omega arith
+
+  pub uplink-back : (u : UplinkPayload) → p .payload ≡ AnUplink u → p .mhdr .«payload_type» ≡ Uplink
+      → u .metadata .channel < 256 → u .«relay_id» < 4294967296
+      → (meshOf w ≡ Mesh (holding p (AnUplink (record { metadata = u .metadata; «relay_id» = u .«relay_id»; «phy_payload» = at 10 (runBytes s (u .«phy_payload»)) }))))
+      × (runBytes w (at 10 (runBytes s (u .«phy_payload»))) ≡ runBytes s (u .«phy_payload»))
+  unfolding payloadWire uplinkWire payloadAt
+  uplink-back u eu et hc hr =
+      let v = runBytes s (u .«phy_payload») in
+      let g = run-bytes s (u .«phy_payload») (uplinkHead u) (k .body) (sym (ap (payloadWire s) eu) ∙ k .payload) in
+      let h = g .1 in
+      let l = uplink-length u h (g .2) in
+      let f = fits h v (g .3) in (
+        read Uplink et _ (ap (λ (x : List ℕ). ofUplink (uplinkAt 1 x)) (g .3) ∙ ap ofUplink (uplink-read-back u h v 1 (g .2) hc hr (omega arith))),
+        run-in h v 10 (g .3) (omega arith),
+      )
+
+  pub downlink-back : (u : DownlinkPayload) → p .payload ≡ ADownlink u → p .mhdr .«payload_type» ≡ Downlink → u .«relay_id» < 4294967296
+      → (h : List ℕ) × (downlinkHead u ≡ bytes h)
+      × (meshOf w ≡ Mesh (holding p (ADownlink (record { metadata = heard (u .metadata) h; «relay_id» = u .«relay_id»; «phy_payload» = at 11 (runBytes s (u .«phy_payload»)) }))))
+      × (runBytes w (at 11 (runBytes s (u .«phy_payload»))) ≡ runBytes s (u .«phy_payload»))
+  unfolding payloadWire downlinkWire payloadAt
+  downlink-back u eu et hr =
+      let v = runBytes s (u .«phy_payload») in
+      let g = run-bytes s (u .«phy_payload») (downlinkHead u) (k .body) (sym (ap (payloadWire s) eu) ∙ k .payload) in
+      let h = g .1 in
+      let l = downlink-length u h (g .2) in
+      let f = fits h v (g .3) in (
+        h,
+        g .2,
+        read Downlink et _ (ap (λ (x : List ℕ). ofDownlink (downlinkAt 1 x)) (g .3) ∙ ap ofDownlink (downlink-read-back u h v 1 (g .2) hr (omega arith))),
+        run-in h v 11 (g .3) (omega arith),
+      )
+
+  pub event-back : (u : EventPayload) → p .payload ≡ AnEvent u → p .mhdr .«payload_type» ≡ Event → u .timestamp < 4294967296 → u .«relay_id» < 4294967296
+      → (meshOf w ≡ Mesh (holding p (AnEvent (record { timestamp = u .timestamp; «relay_id» = u .«relay_id»; events = bodyOf 9 (length (runBytes s (runOf (u .events)))) }))))
+      × (runBytes w (at 9 (runBytes s (runOf (u .events)))) ≡ runBytes s (runOf (u .events)))
+  unfolding payloadWire eventWire stampedWire payloadAt
+  event-back u eu et ht hr =
+      let v = runBytes s (runOf (u .events)) in
+      let h = stamp (u .timestamp) (u .«relay_id») in
+      let g = run-bytes s (runOf (u .events)) (bytes h) (k .body) (sym (ap (payloadWire s) eu) ∙ k .payload) in
+      let y : g .1 ≡ h = cc (g .2) in
+      let e : k .body ≡ h ++ v = g .3 ∙ ap (λ (x : List ℕ). x ++ v) y in
+      let l = stamp-length (u .timestamp) (u .«relay_id») in
+      let f = fits h v e in (
+        read Event et _ (ap (λ (x : List ℕ). ofEvent (eventAt 1 x)) e ∙ ap ofEvent (event-read-back (u .timestamp) (u .«relay_id») v 1 ht hr (omega arith))),
+        run-in h v 9 e (omega arith),
+      )
+
+  pub command-back : (u : CommandPayload) → p .payload ≡ ACommand u → p .mhdr .«payload_type» ≡ Command → u .timestamp < 4294967296 → u .«relay_id» < 4294967296
+      → (meshOf w ≡ Mesh (holding p (ACommand (record { timestamp = u .timestamp; «relay_id» = u .«relay_id»; commands = bodyOf 9 (length (runBytes s (runOf (u .commands)))) }))))
+      × (runBytes w (at 9 (runBytes s (runOf (u .commands)))) ≡ runBytes s (runOf (u .commands)))
+  unfolding payloadWire commandWire stampedWire payloadAt
+  command-back u eu et ht hr =
+      let v = runBytes s (runOf (u .commands)) in
+      let h = stamp (u .timestamp) (u .«relay_id») in
+      let g = run-bytes s (runOf (u .commands)) (bytes h) (k .body) (sym (ap (payloadWire s) eu) ∙ k .payload) in
+      let y : g .1 ≡ h = cc (g .2) in
+      let e : k .body ≡ h ++ v = g .3 ∙ ap (λ (x : List ℕ). x ++ v) y in
+      let l = stamp-length (u .timestamp) (u .«relay_id») in
+      let f = fits h v e in (
+        read Command et _ (ap (λ (x : List ℕ). ofCommand (commandAt 1 x)) e ∙ ap ofCommand (command-read-back (u .timestamp) (u .«relay_id») v 1 ht hr (omega arith))),
+        run-in h v 9 e (omega arith),
+      )
+
+-- ---- LoRa frames
+
+part-most : (s : List ℕ) (start len : ℕ) → length (partOf s start len) ≤ len
+unfolding partOf
+part-most s start len = by (ltb (length s) start) (ltb (length s - start) len)
+  where
+    by : (t u : Bool) → length (pick t [] (pick u [] (take len (drop start s)))) ≤ len
+    by true u = omega arith
+    by false true = omega arith
+    by false false = rw (length-take len (drop start s)) (min-le-left len (length (drop start s)))
+
+short-enough : (w : List ℕ) (n : ℕ) (v : List ℕ) (t : Bool) → ltb 8192 n ≡ t → pick t (refused 5) (bytes v) ≡ bytes w → (n ≤ 8192) × (v ≡ w)
+short-enough w n v true q e = let z : _≡_ {A = ℕ} 0 1 = cc in absurd (omega arith)
+short-enough w n v false q e = (ltb-false 8192 n q, cc)
+
+pub lora-back : (s w : List ℕ) (r : Run) → loraFrame s r ≡ bytes w → 1 ≤ length w → (getD w 0 0 / 32 ≡ 7 → ⊥)
+    → (packetOf w ≡ PacketIs (Lora (at 0 w))) × (w ≡ runBytes s r)
+unfolding loraFrame packetOf
+lora-back s w r e l h =
+    let a = unless-bytes (runRefusal (length s) r) _ w e in
+    let c = short-enough w (r .len) (runBytes s r) (ltb 8192 (r .len)) refl (a .1) in
+    let m = part-most s (r .start) (r .len) in
+    let n : length w ≤ 8192 = let q : length (runBytes s r) ≡ length w = ap length (c .1) in omega (arith, c .0) in
+    (simp (ne-eqb (length w) 0 (λ z. omega arith), le-ltb 8192 (length w) n, ne-eqb (getD w 0 0 / 32) 7 h), sym (c .1))

@@ -1,0 +1,48 @@
+-- The steps that the writers' proofs share. Assumes nothing.
+use Prim.Native.Nat.{ℕ, _≤_, _<_}
+use mathlib.Core.Path.{_≡_, refl, sym, ap, ap₂, _∙_}
+use mathlib.Core.List.{List}
+use lib.ListN.{length}
+use borrow.Author.Tests.{lt-ltb, le-ltb, eq-eqb, ne-eqb}
+use Rattle.base.specs.Answers.{Frame, bytes, refused, answerOf, outOf}
+use Rattle.base.specs.declared.Written.{Written}
+use Rattle.base.specs.declared.Written.the-variants.{Refused}
+use Rattle.fields.specs.Header.{headerByte}
+use Rattle.fields.specs.declared.header.HeaderByte.{HeaderByte}
+use Rattle.fields.specs.declared.header.HeaderByte.the-variants.{Byte, Refused as NoByte}
+use Rattle.payloads.specs.Run.{runRefusal, runBytes}
+use Rattle.payloads.specs.declared.run.Run.{Run}
+use Rattle.payloads.specs.Write.{prefixed, withMic}
+use Rattle.packets.specs.Write.{behind, payloadWire, messageOf, meshFrame, loraFrame}
+use Rattle.packets.specs.declared.mesh.MeshPacket.{MeshPacket}
+
+abbrev pub Outcome : Written → List ℕ → Frame → List ℕ → Type 0
+Outcome r x f o = (r ≡ answerOf f o) × (x ≡ outOf f o)
+
+pub same-frame : (f g : Frame) (r : Written) (x o : List ℕ) → f ≡ g → Outcome r x g o → Outcome r x f o
+same-frame f g r x o e h = rw e h
+
+-- 6 and 7
+pub header-refused : (n : ℕ) (s : List ℕ) (p : MeshPacket) (o : List ℕ) → NoByte n ≡ headerByte (p .mhdr) → Outcome (Refused n) o (meshFrame s p) o
+unfolding meshFrame messageOf withMic answerOf outOf
+header-refused n s p o e = rw (← e) (refl, refl)
+
+-- and otherwise what stands behind the byte
+pub header-byte : (b : ℕ) (s : List ℕ) (p : MeshPacket) (f : Frame) → Byte b ≡ headerByte (p .mhdr) → payloadWire s (p .payload) ≡ f
+    → meshFrame s p ≡ withMic (p .«has_mic») (p .mic) (prefixed b f)
+unfolding meshFrame messageOf
+header-byte b s p f e q = ap₂ (λ (x : HeaderByte) (y : Frame). withMic (p .«has_mic») (p .mic) (behind x y)) (sym e) q
+
+-- a LoRa frame: outside, too long, and its bytes
+module _ (k : ℕ) (s : List ℕ) (r : Run) where
+  pub lora-outside : (o : List ℕ) → k ≡ runRefusal (length s) r → (k ≡ 0 → ⊥) → Outcome (Refused k) o (loraFrame s r) o
+  unfolding loraFrame answerOf outOf
+  lora-outside o e h = rw (← e) (simp (ne-eqb k 0 h) (refl, refl))
+
+  pub lora-long : (o : List ℕ) → k ≡ runRefusal (length s) r → k ≡ 0 → 8192 < r .len → Outcome (Refused 5) o (loraFrame s r) o
+  unfolding loraFrame answerOf outOf
+  lora-long o e h l = rw (← e) (simp (eq-eqb k 0 h, lt-ltb 8192 (r .len) l) (refl, refl))
+
+  pub lora-bytes : k ≡ runRefusal (length s) r → k ≡ 0 → r .len ≤ 8192 → loraFrame s r ≡ bytes (runBytes s r)
+  unfolding loraFrame
+  lora-bytes e h l = rw (← e) (simp (eq-eqb k 0 h, le-ltb 8192 (r .len) l))

@@ -1,0 +1,96 @@
+-- Frames read, with the refusals of document 01 in their order: 1, 5, 2, 3, 4. Assumes nothing.
+use Prim.Native.Nat.{ℕ, _-_, _/_}
+use mathlib.Core.Bool.{true}
+use mathlib.Core.List.{List}
+use lib.Dec.{ltb, eqb}
+use lib.ListN.{length, getD, take, drop}
+use Rattle.base.specs.Pick.{pick}
+use Rattle.base.specs.Numbers.{frameEmpty, frameShort, frameLong}
+use Rattle.base.specs.Answers.{Answer, value, number}
+use Rattle.fields.specs.Header.{headerOf}
+use Rattle.fields.specs.declared.header.MHDR.{MHDR}
+use Rattle.fields.specs.declared.header.PayloadType.{PayloadType}
+use Rattle.fields.specs.declared.header.PayloadType.the-variants.{Uplink, Downlink, Event, Command}
+use Rattle.fields.specs.declared.header.HeaderRead.{HeaderRead}
+use Rattle.fields.specs.declared.header.HeaderRead.the-variants.{Header, Refused as NoHeader}
+use Rattle.payloads.specs.Read.{fourAt, uplinkAt, downlinkAt, eventAt, commandAt}
+use Rattle.payloads.specs.declared.uplink.UplinkRead.{UplinkRead}
+use Rattle.payloads.specs.declared.uplink.UplinkRead.the-variants.{Payload as UplinkIs, Refused as NoUplink}
+use Rattle.payloads.specs.declared.downlink.DownlinkRead.{DownlinkRead}
+use Rattle.payloads.specs.declared.downlink.DownlinkRead.the-variants.{Payload as DownlinkIs, Refused as NoDownlink}
+use Rattle.payloads.specs.declared.sealed.EventRead.{EventRead}
+use Rattle.payloads.specs.declared.sealed.EventRead.the-variants.{Payload as EventIs, Refused as NoEvent}
+use Rattle.payloads.specs.declared.sealed.CommandRead.{CommandRead}
+use Rattle.payloads.specs.declared.sealed.CommandRead.the-variants.{Payload as CommandIs, Refused as NoCommand}
+use Rattle.packets.specs.declared.mesh.Payload.{Payload}
+use Rattle.packets.specs.declared.mesh.Payload.the-variants.{Uplink as AnUplink, Downlink as ADownlink, Event as AnEvent, Command as ACommand}
+use Rattle.packets.specs.declared.mesh.PayloadRead.{PayloadRead}
+use Rattle.packets.specs.declared.mesh.PayloadRead.the-variants.{Payload as PayloadIs, Refused as NoPayload}
+use Rattle.packets.specs.declared.mesh.MeshPacket.{MeshPacket}
+use Rattle.packets.specs.declared.mesh.MeshRead.{MeshRead}
+use Rattle.packets.specs.declared.mesh.MeshRead.the-variants.{Mesh, Refused}
+use Rattle.packets.specs.declared.any.Packet.{Packet}
+use Rattle.packets.specs.declared.any.Packet.the-variants.{Mesh as AMesh, Lora}
+use Rattle.packets.specs.declared.any.PacketRead.{PacketRead}
+use Rattle.packets.specs.declared.any.PacketRead.the-variants.{Packet as PacketIs, Refused as NoPacket}
+
+-- the body: all between the first byte and the last four
+abbrev pub bodyIn : List ℕ → List ℕ
+bodyIn s = take (length s - 4 - 1) (drop 1 s)
+
+abbrev pub ofUplink : UplinkRead → PayloadRead
+ofUplink (UplinkIs p) = PayloadIs (AnUplink p)
+ofUplink (NoUplink n) = NoPayload n
+
+abbrev pub ofDownlink : DownlinkRead → PayloadRead
+ofDownlink (DownlinkIs p) = PayloadIs (ADownlink p)
+ofDownlink (NoDownlink n) = NoPayload n
+
+abbrev pub ofEvent : EventRead → PayloadRead
+ofEvent (EventIs p) = PayloadIs (AnEvent p)
+ofEvent (NoEvent n) = NoPayload n
+
+abbrev pub ofCommand : CommandRead → PayloadRead
+ofCommand (CommandIs p) = PayloadIs (ACommand p)
+ofCommand (NoCommand n) = NoPayload n
+
+-- by its type, and at byte 1 of its frame
+unfoldable pub payloadAt : PayloadType → List ℕ → PayloadRead
+payloadAt Uplink b = ofUplink (uplinkAt 1 b)
+payloadAt Downlink b = ofDownlink (downlinkAt 1 b)
+payloadAt Event b = ofEvent (eventAt 1 b)
+payloadAt Command b = ofCommand (commandAt 1 b)
+
+abbrev pub withPayload : List ℕ → MHDR → PayloadRead → MeshRead
+withPayload s h (PayloadIs p) = Mesh (record { mhdr = h; payload = p; «has_mic» = true; mic = fourAt s (length s - 4) })
+withPayload s h (NoPayload n) = Refused n
+
+abbrev pub withHeader : List ℕ → HeaderRead → MeshRead
+withHeader s (NoHeader n) = Refused n
+withHeader s (Header h) = withPayload s h (payloadAt (h .«payload_type») (bodyIn s))
+
+unfoldable pub meshOf : List ℕ → MeshRead
+meshOf s =
+    pick (eqb (length s) 0) (Refused frameEmpty)
+    (pick (ltb 8192 (length s)) (Refused frameLong)
+    (pick (ltb (length s) 5) (Refused frameShort) (withHeader s (headerOf (getD s 0 0)))))
+
+-- any other top bits than 111 are a LoRa frame
+abbrev pub ofMesh : MeshRead → PacketRead
+ofMesh (Mesh p) = PacketIs (AMesh p)
+ofMesh (Refused n) = NoPacket n
+
+unfoldable pub packetOf : List ℕ → PacketRead
+packetOf s =
+    pick (eqb (length s) 0) (NoPacket frameEmpty)
+    (pick (ltb 8192 (length s)) (NoPacket frameLong)
+    (pick (eqb (getD s 0 0 / 32) 7) (ofMesh (meshOf s)) (PacketIs (Lora (record { start = 0; len = length s })))))
+
+-- document 01's number, or the value
+abbrev pub meshSays : MeshRead → Answer MeshPacket
+meshSays (Mesh p) = value p
+meshSays (Refused n) = number n
+
+abbrev pub packetSays : PacketRead → Answer Packet
+packetSays (PacketIs p) = value p
+packetSays (NoPacket n) = number n

@@ -1,0 +1,126 @@
+// A mesh frame: header byte, body, four bytes of MIC. The MIC is its four bytes as one number, and a flag beside it says whether there is
+// one. A header's type and the payload's kind are two things, as in the Rust: the header byte goes by the header, the body by the payload.
+ghost use mathlib.Core.Path.{_≡_};
+ghost use Rattle.base.specs.Answers.{answerOf, outOf};
+ghost use Rattle.packets.specs.Read.{payloadAt, meshOf};
+ghost use Rattle.packets.specs.Write.{meshFrame};
+use base::Limit;
+use base::Refusal;
+use base::Written;
+use fields::HeaderByte;
+use fields::HeaderRead;
+use fields::MHDR;
+use fields::PayloadType;
+use payloads::CommandPayload;
+use payloads::CommandRead;
+use payloads::DownlinkPayload;
+use payloads::DownlinkRead;
+use payloads::EventPayload;
+use payloads::EventRead;
+use payloads::UplinkPayload;
+use payloads::UplinkRead;
+use wire::be32_of;
+
+pub enum Payload {
+    Uplink(UplinkPayload),
+    Downlink(DownlinkPayload),
+    Event(EventPayload),
+    Command(CommandPayload),
+}
+
+pub enum PayloadRead {
+    Payload(Payload),
+    Refused(u8),
+}
+
+pub struct MeshPacket {
+    pub mhdr: MHDR,
+    pub payload: Payload,
+    pub has_mic: bool,
+    pub mic: u32,
+}
+
+pub enum MeshRead {
+    Mesh(MeshPacket),
+    Refused(u8),
+}
+
+// The body, which lies in its frame from byte 1 on, by the reader of its type.
+fn read_body(t: PayloadType, b: &[u8]) -> PayloadRead
+    ensures { λ r. ⌜ r ≡ payloadAt t (now (b .entry)) ⌝ }
+{
+    match t {
+        PayloadType::Uplink => match UplinkPayload::read_at(b, 1) {
+            UplinkRead::Payload(p) => PayloadRead::Payload(Payload::Uplink(p)),
+            UplinkRead::Refused(n) => PayloadRead::Refused(n),
+        },
+        PayloadType::Downlink => match DownlinkPayload::read_at(b, 1) {
+            DownlinkRead::Payload(p) => PayloadRead::Payload(Payload::Downlink(p)),
+            DownlinkRead::Refused(n) => PayloadRead::Refused(n),
+        },
+        PayloadType::Event => match EventPayload::read_at(b, 1) {
+            EventRead::Payload(p) => PayloadRead::Payload(Payload::Event(p)),
+            EventRead::Refused(n) => PayloadRead::Refused(n),
+        },
+        PayloadType::Command => match CommandPayload::read_at(b, 1) {
+            CommandRead::Payload(p) => PayloadRead::Payload(Payload::Command(p)),
+            CommandRead::Refused(n) => PayloadRead::Refused(n),
+        },
+    }
+}
+
+impl MeshPacket {
+    // Header byte and MIC.
+    pub const LEAST: usize = 5;
+
+    pub fn from_slice(frame: &[u8]) -> MeshRead
+        ensures { λ r. ⌜ r ≡ meshOf (now (frame .entry)) ⌝ }
+    {
+        let n = frame.len();
+        if n == 0 {
+            return MeshRead::Refused(Refusal::FRAME_EMPTY);
+        }
+        if Limit::FRAME < n {
+            return MeshRead::Refused(Refusal::FRAME_LONG);
+        }
+        if n < MeshPacket::LEAST {
+            return MeshRead::Refused(Refusal::FRAME_SHORT);
+        }
+        match MHDR::from_byte(frame[0]) {
+            HeaderRead::Refused(k) => MeshRead::Refused(k),
+            HeaderRead::Header(mhdr) => {
+                let end = n - 4;
+                let t = mhdr.payload_type;
+                match read_body(t, &frame[1..end]) {
+                    PayloadRead::Refused(k) => MeshRead::Refused(k),
+                    PayloadRead::Payload(payload) => MeshRead::Mesh(MeshPacket {
+                        mhdr,
+                        payload,
+                        has_mic: true,
+                        mic: be32_of(frame[end], frame[end + 1], frame[end + 2], frame[end + 3]),
+                    }),
+                }
+            }
+        }
+    }
+
+    // The payload's runs lie in src. 6, 7, 45, body fields, 27, 5, 21.
+    pub fn write(self, src: &[u8], out: &mut [u8]) -> Written
+        ensures answer { λ r. ⌜ r ≡ answerOf (meshFrame (now (src .entry)) self) (now (out .entry)) ⌝ }
+        ensures bytes { λ _. ⌜ now (out .exit) ≡ outOf (meshFrame (now (src .entry)) self) (now (out .entry)) ⌝ }
+    {
+        let mhdr = self.mhdr;
+        let payload = self.payload;
+        let has_mic = self.has_mic;
+        let mic = self.mic;
+        match mhdr.to_byte() {
+            HeaderByte::Refused(n) => Written::Refused(n),
+            HeaderByte::Byte(b) => match payload {
+                Payload::Uplink(p) => p.write_in(b, has_mic, mic, src, out),
+                Payload::Downlink(p) => p.write_in(b, has_mic, mic, src, out),
+                Payload::Event(p) => p.write_in(b, has_mic, mic, src, out),
+                Payload::Command(p) => p.write_in(b, has_mic, mic, src, out),
+            },
+        }
+    }
+}

@@ -1,0 +1,83 @@
+-- Bodies written, and the frame around one. Each is a `Frame`: the bytes, or the first refusal in the order 45, the fields, 27, 5; 21 comes
+-- after them, with the lent output. Assumes nothing.
+use Prim.Native.Nat.{ℕ}
+use mathlib.Core.Bool.{Bool}
+use mathlib.Core.List.{List, _∷_, _++_}
+use lib.Dec.{ltb}
+use lib.ListN.{length}
+use Rattle.base.specs.Pick.{pick}
+use Rattle.base.specs.Numbers.{frameLong, micMissing}
+use Rattle.base.specs.Answers.{Frame, bytes, refused}
+use Rattle.wire.specs.Number.{beBytes}
+use Rattle.fields.specs.Meta.{unlessRefused, upWire, downWire}
+use Rattle.payloads.specs.Run.{runRefusal, runBytes}
+use Rattle.payloads.specs.declared.uplink.UplinkPayload.{UplinkPayload}
+use Rattle.payloads.specs.declared.downlink.DownlinkPayload.{DownlinkPayload}
+use Rattle.payloads.specs.declared.run.Run.{Run}
+use Rattle.payloads.specs.declared.sealed.Body.{Body}
+use Rattle.payloads.specs.declared.sealed.Body.the-variants.{Empty, Sealed}
+use Rattle.payloads.specs.declared.sealed.EventPayload.{EventPayload}
+use Rattle.payloads.specs.declared.sealed.CommandPayload.{CommandPayload}
+use Rattle.payloads.specs.declared.sealed.Stamped.{Stamped}
+
+-- what is written, with more behind it
+abbrev pub followed : Frame → List ℕ → Frame
+followed (refused n) v = refused n
+followed (bytes w) v = bytes (w ++ v)
+
+-- and with a byte before it
+abbrev pub prefixed : ℕ → Frame → Frame
+prefixed b (refused n) = refused n
+prefixed b (bytes w) = bytes (b ∷ w)
+
+-- a body, of which header byte and MIC would make a frame of five bytes more
+unfoldable pub limited : List ℕ → Frame
+limited w = pick (ltb 8187 (length w)) (refused frameLong) (bytes w)
+
+abbrev pub limitedOf : Frame → Frame
+limitedOf (refused n) = refused n
+limitedOf (bytes w) = limited w
+
+-- header byte and body, with the MIC behind them
+unfoldable pub withMic : Bool → ℕ → Frame → Frame
+withMic has mic (refused n) = refused n
+withMic has mic (bytes w) = pick has (pick (ltb 8188 (length w)) (refused frameLong) (bytes (w ++ beBytes 4 mic))) (refused micMissing)
+
+-- a head, and a run of s behind it
+abbrev pub withRun : List ℕ → Run → Frame → Frame
+withRun s r f = unlessRefused (runRefusal (length s) r) (followed f (runBytes s r))
+
+unfoldable pub uplinkHead : UplinkPayload → Frame
+uplinkHead p = followed (upWire (p .metadata)) (beBytes 4 (p .«relay_id»))
+
+unfoldable pub uplinkWire : List ℕ → UplinkPayload → Frame
+uplinkWire s p = withRun s (p .«phy_payload») (uplinkHead p)
+
+unfoldable pub downlinkHead : DownlinkPayload → Frame
+downlinkHead p = followed (downWire (p .metadata)) (beBytes 4 (p .«relay_id»))
+
+unfoldable pub downlinkWire : List ℕ → DownlinkPayload → Frame
+downlinkWire s p = withRun s (p .«phy_payload») (downlinkHead p)
+
+-- timestamp and relay id
+unfoldable pub stamp : ℕ → ℕ → List ℕ
+stamp time relay = beBytes 4 time ++ beBytes 4 relay
+
+abbrev pub runOf : Body → Run
+runOf Empty = record { start = 0; len = 0 }
+runOf (Sealed r) = r
+
+unfoldable pub stampedWire : List ℕ → Stamped → Frame
+stampedWire s p = withRun s (runOf (p .body)) (bytes (stamp (p .timestamp) (p .«relay_id»)))
+
+abbrev pub stampedOfEvent : EventPayload → Stamped
+stampedOfEvent p = record { timestamp = p .timestamp; «relay_id» = p .«relay_id»; body = p .events }
+
+abbrev pub stampedOfCommand : CommandPayload → Stamped
+stampedOfCommand p = record { timestamp = p .timestamp; «relay_id» = p .«relay_id»; body = p .commands }
+
+unfoldable pub eventWire : List ℕ → EventPayload → Frame
+eventWire s p = stampedWire s (stampedOfEvent p)
+
+unfoldable pub commandWire : List ℕ → CommandPayload → Frame
+commandWire s p = stampedWire s (stampedOfCommand p)
