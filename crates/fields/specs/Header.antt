@@ -1,5 +1,5 @@
 -- The header byte: 111, two bits of type, three bits of hop count minus 1. Assumes nothing.
-use Prim.Native.Nat.{ℕ, zero, suc, _+_, _-_, _*_, _/_, _%_}
+use Prim.Native.Nat.{ℕ, _+_, _-_, _*_, _/_, _%_}
 use lib.Dec.{ltb, eqb}
 use Rattle.base.specs.Pick.{pick}
 use Rattle.base.specs.Numbers.{notMesh, hopsNone, hopsMany, typeLarge}

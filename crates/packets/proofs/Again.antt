@@ -23,6 +23,7 @@ use Rattle.fields.specs.declared.header.HeaderByte.{HeaderByte}
 use Rattle.fields.specs.declared.header.HeaderByte.the-variants.{Byte}
 use Rattle.fields.proofs.Laws.Header.{header-again}
 use Rattle.payloads.specs.Read.{fourAt}
+use Rattle.payloads.proofs.Steps.{listed}
 use Rattle.payloads.specs.Write.{withMic}
 use Rattle.packets.specs.Read.{bodyIn, payloadAt, withPayload, withHeader, meshOf}
 use Rattle.packets.specs.Write.{payloadWire, behind, messageOf, meshFrame}
@@ -73,15 +74,6 @@ module _ (s : List ℕ) (p : MeshPacket) where
   unfolding meshOf
   was-read x = first (eqb (length s) 0) x
 
--- a list of four is its elements
-four-list : (l : List ℕ) → length l ≡ 4 → l ≡ getD l 0 0 ∷ getD l 1 0 ∷ getD l 2 0 ∷ getD l 3 0 ∷ []
-four-list [] e = absurd (omega arith)
-four-list (a ∷ []) e = absurd (omega arith)
-four-list (a ∷ b ∷ []) e = absurd (omega arith)
-four-list (a ∷ b ∷ c ∷ []) e = absurd (omega arith)
-four-list (a ∷ b ∷ c ∷ d ∷ []) e = refl
-four-list (a ∷ b ∷ c ∷ d ∷ x ∷ l) e = absurd (omega arith)
-
 -- the last four bytes of a list are those of their number
 pub last-four : (s : List ℕ) (i : ℕ) → Bytes s → length s ≡ i + 4 → beBytes 4 (fourAt s i) ≡ drop i s
 last-four s i h n =
@@ -89,7 +81,7 @@ last-four s i h n =
     let l : length D ≡ 4 = length-drop i s ∙ omega arith in
     let z : getD D 0 0 ≡ getD s i 0 = getD-drop i s 0 0 ∙ ap (λ (k : ℕ). getD s k 0) (add-zero i) in
     let e : D ≡ getD s i 0 ∷ getD s (i + 1) 0 ∷ getD s (i + 2) 0 ∷ getD s (i + 3) 0 ∷ [] =
-    four-list D l ∙ (z ◂ getD-drop i s 1 0 ◂ getD-drop i s 2 0 ◂ getD-drop i s 3 0 ◂ refl) in
+    sym (listed 4 D l) ∙ (z ◂ getD-drop i s 1 0 ◂ getD-drop i s 2 0 ◂ getD-drop i s 3 0 ◂ refl) in
     let b : Bytes D = λ k. subst (λ (x : ℕ). x < 256) (sym (getD-drop i s k 0)) (h (i + k)) in
     ap (λ (x : List ℕ). beBytes 4 (beOf x)) (sym e) ∙ ap (λ (k : ℕ). beBytes k (beOf D)) (sym l) ∙ bytes-of D b
 

@@ -5,7 +5,6 @@ use mathlib.Core.List.{List}
 use lib.ListN.{length}
 use borrow.Author.Tests.{lt-ltb, le-ltb, eq-eqb, ne-eqb}
 use Rattle.base.specs.Answers.{Frame, bytes, refused, answerOf, outOf}
-use Rattle.base.specs.declared.Written.{Written}
 use Rattle.base.specs.declared.Written.the-variants.{Refused}
 use Rattle.fields.specs.Header.{headerByte}
 use Rattle.fields.specs.declared.header.HeaderByte.{HeaderByte}
@@ -13,14 +12,9 @@ use Rattle.fields.specs.declared.header.HeaderByte.the-variants.{Byte, Refused 
 use Rattle.payloads.specs.Run.{runRefusal, runBytes}
 use Rattle.payloads.specs.declared.run.Run.{Run}
 use Rattle.payloads.specs.Write.{prefixed, withMic}
+use Rattle.payloads.proofs.Steps.{Outcome}
 use Rattle.packets.specs.Write.{behind, payloadWire, messageOf, meshFrame, loraFrame}
 use Rattle.packets.specs.declared.mesh.MeshPacket.{MeshPacket}
-
-abbrev pub Outcome : Written → List ℕ → Frame → List ℕ → Type 0
-Outcome r x f o = (r ≡ answerOf f o) × (x ≡ outOf f o)
-
-pub same-frame : (f g : Frame) (r : Written) (x o : List ℕ) → f ≡ g → Outcome r x g o → Outcome r x f o
-same-frame f g r x o e h = rw e h
 
 -- 6 and 7
 pub header-refused : (n : ℕ) (s : List ℕ) (p : MeshPacket) (o : List ℕ) → NoByte n ≡ headerByte (p .mhdr) → Outcome (Refused n) o (meshFrame s p) o

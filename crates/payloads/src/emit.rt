@@ -1,6 +1,5 @@
 // Writing what is good: a head and a payload, for a body, and with the header byte before them and the MIC behind for a frame.
 ghost use mathlib.Core.Path.{_≡_};
-ghost use mathlib.Core.Bool.{true};
 ghost use mathlib.Core.List.{_∷_, _++_};
 ghost use Prim.Native.Nat.{_+_, _≤_};
 ghost use lib.ListN.{length};

@@ -3,7 +3,8 @@ use lib.ListN.{length}
 use mathlib.Core.List.{List}
 use Prim.Native.Nat.{ℕ}
 use Rattle.base.specs.Answers.{bytes}
-use Rattle.packets.proofs.Steps.{same-frame, lora-outside, lora-long, lora-bytes}
+use Rattle.payloads.proofs.Steps.{same-frame}
+use Rattle.packets.proofs.Steps.{lora-outside, lora-long, lora-bytes}
 use borrow.Author.Needs.{needs}
 use mathlib.Core.Path.{sym, ap, _∙_}
 use denote.Ref.{now}

@@ -1,6 +1,6 @@
 -- `packets::any::Packet::write` meets its contract. Assumes nothing.
 use Rattle.packets.specs.Write.{packetFrame}
-use Rattle.packets.proofs.Steps.{same-frame}
+use Rattle.payloads.proofs.Steps.{same-frame}
 use borrow.Author.Needs.{needs}
 use mathlib.Core.Path.{ap}
 use denote.Ref.{now}

@@ -1,6 +1,7 @@
 -- `packets::mesh::MeshPacket::write` meets its contract. Assumes nothing.
 use Rattle.packets.specs.Write.{payloadWire}
-use Rattle.packets.proofs.Steps.{same-frame, header-refused, header-byte}
+use Rattle.payloads.proofs.Steps.{same-frame}
+use Rattle.packets.proofs.Steps.{header-refused, header-byte}
 use borrow.Author.Needs.{needs}
 use mathlib.Core.Path.{sym, ap, _∙_}
 use denote.Ref.{now}
