@@ -1,5 +1,5 @@
-// Runs the published vectors of FIPS 197, SP 800-38A and RFC 4493, and the rules of keys in document 01, and prints a line for each.
-// The file stdout beside src/ has the published values; the gate compares.
+// Runs the published vectors of FIPS 197, SP 800-38A and RFC 4493, and document 01's rules of keys, its examples P1 to P10 and the four
+// frames of its dump, and prints a line for each. The file stdout beside src/ has the published values; the gate compares.
 ghost use Prim.Native.Nat.{_≤_};
 use aes128::Aes128Key;
 use aes128::encrypt_block;
@@ -12,9 +12,23 @@ use cmac::Mac;
 use cmac::cmac;
 use cmac::subkey1;
 use cmac::subkey2;
+use fields::FreqRead;
+use fields::HeaderRead;
+use fields::MHDR;
+use fields::PayloadType;
+use fields::UplinkMetadata;
+use fields::decode_freq;
+use fields::encode_freq;
 use libc::STDOUT_FILENO;
+use packets::MeshPacket;
+use packets::Packet;
+use packets::PacketRead;
+use packets::Payload;
+use payloads::Run;
+use wire::be32_bytes;
 use wire::part;
 use wire::read_hex;
+use wire::write_hex;
 
 fn say(text: &[u8]) {
     io::write_all(STDOUT_FILENO, text);
@@ -266,6 +280,233 @@ fn whole_output() {
     key_read(b"the key again            ", Aes128Key::from_slice(&whole));
 }
 
+fn plain(label: &[u8], x: u64) {
+    say(label);
+    io::print_decimal(STDOUT_FILENO, x);
+}
+
+// Bytes in hex, 32 of them at most.
+fn hex(label: &[u8], bytes: &[u8]) {
+    say(label);
+    let mut text = [0u8; 64];
+    write_hex(bytes, &mut text, 0);
+    say(part(&text, 0, 2 * bytes.len()));
+}
+
+fn uplink_written(m: UplinkMetadata) {
+    let w = m.to_bytes();
+    let answer = w.answer;
+    let bytes = w.bytes;
+    match answer {
+        Checked::Accepted => hex(b", written ", &bytes),
+        Checked::Refused(n) => number(b", ", n),
+    }
+    say(b"\n");
+}
+
+fn same(a: UplinkMetadata, b: UplinkMetadata) -> bool {
+    if a.uplink_id != b.uplink_id {
+        return false;
+    }
+    if a.dr != b.dr {
+        return false;
+    }
+    if a.rssi != b.rssi {
+        return false;
+    }
+    if a.snr != b.snr {
+        return false;
+    }
+    a.channel == b.channel
+}
+
+// Whether the bytes are read as the document has it, and what is written again.
+fn metadata(label: &[u8], bytes: [u8; 5], expected: UplinkMetadata) {
+    let m = UplinkMetadata::from_bytes(bytes);
+    say(label);
+    if same(m, expected) {
+        say(b"read so");
+    } else {
+        say(b"read otherwise");
+    }
+    uplink_written(m);
+}
+
+fn read_back(bytes: &[u8]) {
+    match decode_freq(bytes) {
+        FreqRead::Hertz(n) => plain(b", read as ", n as u64),
+        FreqRead::Refused(n) => number(b", ", n),
+    }
+    say(b"\n");
+}
+
+fn frequency(label: &[u8], freq: u32) {
+    let w = encode_freq(freq);
+    let answer = w.answer;
+    let bytes = w.bytes;
+    match answer {
+        Checked::Accepted => {
+            hex(label, &bytes);
+            read_back(&bytes);
+        }
+        Checked::Refused(n) => number(label, n),
+    }
+}
+
+fn kind(t: PayloadType) {
+    match t {
+        PayloadType::Uplink => say(b"uplink"),
+        PayloadType::Downlink => say(b"downlink"),
+        PayloadType::Event => say(b"event"),
+        PayloadType::Command => say(b"command"),
+    }
+}
+
+fn header(label: &[u8], b: u8) {
+    match MHDR::from_byte(b) {
+        HeaderRead::Header(m) => {
+            let t = m.payload_type;
+            say(label);
+            kind(t);
+            plain(b", hops ", m.hop_count as u64);
+            say(b"\n");
+        }
+        HeaderRead::Refused(n) => number(label, n),
+    }
+}
+
+fn p1() {
+    metadata(
+        b"P1 291, 5, -80, 7, 2     ",
+        [0x12, 0x35, 0x50, 0x07, 0x02],
+        UplinkMetadata {
+            uplink_id: 291,
+            dr: 5,
+            rssi: -80,
+            snr: 7,
+            channel: 2,
+        },
+    );
+}
+
+fn p2() {
+    metadata(
+        b"P2 4095,15,-255,-32,255  ",
+        [0xff, 0xff, 0xff, 0x20, 0xff],
+        UplinkMetadata {
+            uplink_id: 4095,
+            dr: 15,
+            rssi: -255,
+            snr: -32,
+            channel: 255,
+        },
+    );
+}
+
+fn p3() {
+    metadata(
+        b"P3 0, 0, 0, -1, 0        ",
+        [0, 0, 0, 0xff, 0],
+        UplinkMetadata {
+            uplink_id: 0,
+            dr: 0,
+            rssi: 0,
+            snr: -1,
+            channel: 0,
+        },
+    );
+}
+
+fn frequencies() {
+    frequency(b"P4 868100000             ", 868100000);
+    frequency(b"P5 2400000001            ", 2400000001);
+    frequency(b"P6 1200000000            ", 1200000000);
+    frequency(b"P7 1677721500            ", 1677721500);
+    frequency(b"P8 1677721650            ", 1677721650);
+}
+
+fn headers() {
+    header(b"P9 ff                    ", 0xff);
+    header(b"P10 df                   ", 0xdf);
+}
+
+fn lora(run: Run) {
+    plain(b"lora ", run.len as u64);
+}
+
+fn relay(id: u32) {
+    hex(b", relay ", &be32_bytes(id));
+}
+
+fn body(p: Payload) {
+    match p {
+        Payload::Uplink(u) => {
+            plain(b", id ", u.metadata.uplink_id as u64);
+            relay(u.relay_id);
+        }
+        Payload::Downlink(d) => {
+            plain(b", id ", d.metadata.uplink_id as u64);
+            relay(d.relay_id);
+        }
+        Payload::Event(e) => {
+            plain(b", timestamp ", e.timestamp as u64);
+            relay(e.relay_id);
+        }
+        Payload::Command(c) => {
+            plain(b", timestamp ", c.timestamp as u64);
+            relay(c.relay_id);
+        }
+    }
+}
+
+fn mesh(m: MeshPacket) {
+    let h = m.mhdr;
+    let t = h.payload_type;
+    let p = m.payload;
+    kind(t);
+    plain(b", hops ", h.hop_count as u64);
+    body(p);
+    hex(b", mic ", &be32_bytes(m.mic));
+}
+
+fn packet(p: Packet) {
+    match p {
+        Packet::Mesh(m) => mesh(m),
+        Packet::Lora(run) => lora(run),
+    }
+}
+
+fn written_again(p: Packet, frame: &[u8]) {
+    let mut out = [0xaau8; 16];
+    match p.write(frame, &mut out) {
+        Written::Bytes(n) => hex(b", written ", part(&out, 0, n)),
+        Written::Refused(n) => number(b", ", n),
+    }
+    say(b"\n");
+}
+
+// What a frame is, and the same written again.
+fn frame(label: &[u8], bytes: &[u8]) {
+    match Packet::from_slice(bytes) {
+        PacketRead::Refused(n) => number(label, n),
+        PacketRead::Packet(p) => {
+            say(label);
+            packet(p);
+            written_again(p, bytes);
+        }
+    }
+}
+
+fn frames() {
+    let mut bytes = [0u8; 16];
+    read_hex(b"e012355007020a0b0c0d11223344", &mut bytes);
+    frame(b"frame 1                  ", part(&bytes, 0, 14));
+    read_hex(b"f20000003c0a0b0c0d01020304", &mut bytes);
+    frame(b"frame 2                  ", part(&bytes, 0, 13));
+    frame(b"frame 3                  ", b"\x40");
+    frame(b"frame 4                  ", b"\xe0");
+}
+
 fn main() {
     fips197();
     sp800_38a();
@@ -277,4 +518,10 @@ fn main() {
     short_outputs();
     long_outputs();
     whole_output();
+    p1();
+    p2();
+    p3();
+    frequencies();
+    headers();
+    frames();
 }
