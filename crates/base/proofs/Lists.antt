@@ -6,9 +6,9 @@ use native.Mathlib.Nat.{add-zero, zero-add, add-suc, suc-add, le-of-suc-le-suc, 
 use native.Mathlib.Numerals.{add-one}
 use native.Mathlib.Omega.{arith}
 use lib.Bits.{bitXor, xor-zero-r, xor-lt}
-use lib.ListN.{length, getD, take, drop, set, replicate}
+use lib.ListN.{length, getD, take, drop, set, replicate, drop-of-length-le}
 use lib.Seq.{ext-getD, drop-cons}
-use Rattle.base.specs.Lists.{from, Bytes, added}
+use Rattle.base.specs.Lists.{from, Bytes, added, imap, orElse, firstOf, joined}
 use Rattle.base.proofs.Xor.{xor-assoc}
 
 infixr 5 _◂_
@@ -16,17 +16,21 @@ infixr 5 _◂_
 pub _◂_ : {A : Type 0} {x y : A} {xs ys : List A} → x ≡ y → xs ≡ ys → x ∷ xs ≡ y ∷ ys
 _◂_ {A} p q = ap₂ {B = List A} (λ a b. a ∷ b) p q
 
-pub from-length : (n i : ℕ) (f : ℕ → ℕ) → length (from n i f) ≡ n
+pub from-length : {A : Type 0} (n i : ℕ) (f : ℕ → A) → length (from n i f) ≡ n
 from-length zero i f = refl
 from-length (suc n) i f = ap suc (from-length n (suc i) f)
 
-pub from-at : (n i : ℕ) (f : ℕ → ℕ) (k : ℕ) → k < n → getD (from n i f) k 0 ≡ f (i + k)
-from-at zero i f k h = absurd (not-suc-le-zero h)
-from-at (suc n) i f zero h = ap f (sym (add-zero i))
-from-at (suc n) i f (suc k) h = from-at n (suc i) f k (le-of-suc-le-suc h) ∙ ap f (suc-add i k ∙ sym (add-suc i k))
+from-at : {A : Type 0} (n i : ℕ) (f : ℕ → A) (z : A) (k : ℕ) → k < n → getD (from n i f) k z ≡ f (i + k)
+from-at zero i f z k h = absurd (not-suc-le-zero h)
+from-at (suc n) i f z zero h = ap f (sym (add-zero i))
+from-at (suc n) i f z (suc k) h = from-at n (suc i) f z k (le-of-suc-le-suc h) ∙ ap f (suc-add i k ∙ sym (add-suc i k))
+
+-- any default does
+pub from-get : {A : Type 0} (n : ℕ) (f : ℕ → A) (z : A) (k : ℕ) → k < n → getD (from n 0 f) k z ≡ f k
+from-get n f z k h = from-at n 0 f z k h ∙ ap f (zero-add k)
 
 pub from-zero-at : (n : ℕ) (f : ℕ → ℕ) (k : ℕ) → k < n → getD (from n 0 f) k 0 ≡ f k
-from-zero-at n f k h = from-at n 0 f k h ∙ ap f (zero-add k)
+from-zero-at n f k h = from-get n f 0 k h
 
 -- of bytes
 pub from-lt : (n i : ℕ) (f : ℕ → ℕ) → ((k : ℕ) → f k < 256) → Bytes (from n i f)
@@ -98,3 +102,61 @@ added-by-index n x p h =
     let l : i < n = subst (λ (m : ℕ). i < m) (from-length n 0 (λ i. bitXor (getD x i 0) (getD p i 0))) q in
     let r : i < length x = omega arith in
     from-zero-at n (λ i. bitXor (getD x i 0) (getD p i 0)) i l ∙ sym (added-at x p i r))
+
+-- each element by its place
+pub imap-length : (f : ℕ → ℕ → ℕ) (i : ℕ) (s : List ℕ) → length (imap f i s) ≡ length s
+imap-length f i [] = refl
+imap-length f i (x ∷ s) = ap suc (imap-length f (suc i) s)
+
+imap-from : (f : ℕ → ℕ → ℕ) (i : ℕ) (s : List ℕ) (k : ℕ) → k < length s → getD (imap f i s) k 0 ≡ f (i + k) (getD s k 0)
+imap-from f i [] k h = absurd (not-suc-le-zero h)
+imap-from f i (x ∷ s) zero h = ap (λ (n : ℕ). f n x) (sym (add-zero i))
+imap-from f i (x ∷ s) (suc k) h = imap-from f (suc i) s k (le-of-suc-le-suc h) ∙ ap (λ (n : ℕ). f n (getD s k 0)) (suc-add i k ∙ sym (add-suc i k))
+
+pub imap-at : (f : ℕ → ℕ → ℕ) (s : List ℕ) (k : ℕ) → k < length s → getD (imap f 0 s) k 0 ≡ f k (getD s k 0)
+imap-at f s k h = imap-from f 0 s k h ∙ ap (λ (n : ℕ). f n (getD s k 0)) (zero-add k)
+
+pub imap-same : (f g : ℕ → ℕ → ℕ) (i : ℕ) (s : List ℕ) → ((k x : ℕ) → f k x ≡ g k x) → imap f i s ≡ imap g i s
+imap-same f g i [] e = refl
+imap-same f g i (x ∷ s) e = e i x ◂ imap-same f g (suc i) s e
+
+-- nothing is done to any
+pub imap-id : (f : ℕ → ℕ → ℕ) (i : ℕ) (s : List ℕ) → ((k x : ℕ) → f k x ≡ x) → imap f i s ≡ s
+imap-id f i [] e = refl
+imap-id f i (x ∷ s) e = e i x ◂ imap-id f (suc i) s e
+
+pub imap-twice : (f g : ℕ → ℕ → ℕ) (i : ℕ) (s : List ℕ) → imap f i (imap g i s) ≡ imap (λ k x. f k (g k x)) i s
+imap-twice f g i [] = refl
+imap-twice f g i (x ∷ s) = refl ◂ imap-twice f g (suc i) s
+
+-- the first refusal of a list, from the front: those before i gave none
+pub record Passed {A : Type 0} (f : A → ℕ) (xs : List A) (i : ℕ) : Type 0 where
+  pub within : i ≤ length xs
+  pub rest : firstOf f xs ≡ firstOf f (drop i xs)
+
+pub passed-none : {A : Type 0} (f : A → ℕ) (xs : List A) → Passed f xs 0
+passed-none f xs = record { within = omega arith; rest = refl }
+
+pub passed-more : {A : Type 0} (f : A → ℕ) (xs : List A) (i : ℕ) (z : A) → i < length xs → f (getD xs i z) ≡ 0 → Passed f xs i → Passed f xs (i + 1)
+unfolding firstOf
+passed-more f xs i z h e p =
+    record { within = omega arith; rest = p .rest ∙ ap (firstOf f) (drop-cons xs i z h) ∙ ap (λ (n : ℕ). orElse n (firstOf f (drop (suc i) xs))) e ∙ ap (λ (n : ℕ). firstOf f (drop n xs)) (sym (add-one i)) }
+
+pub passed-stop : {A : Type 0} (f : A → ℕ) (xs : List A) (i : ℕ) (z : A) (n : ℕ) → i < length xs → f (getD xs i z) ≡ n → (n ≡ 0 → ⊥) → Passed f xs i → n ≡ firstOf f xs
+unfolding firstOf
+passed-stop f xs i z zero h e k p = absurd (k refl)
+passed-stop f xs i z (suc n) h e k p =
+    sym (p .rest ∙ ap (firstOf f) (drop-cons xs i z h) ∙ ap (λ (m : ℕ). orElse m (firstOf f (drop (suc i) xs))) e)
+
+pub passed-all : {A : Type 0} (f : A → ℕ) (xs : List A) (i : ℕ) → length xs ≤ i → Passed f xs i → 0 ≡ firstOf f xs
+unfolding firstOf
+passed-all f xs i h p = sym (p .rest ∙ ap (firstOf f) (drop-of-length-le xs h))
+
+-- what the first i give, and what the rest gives
+pub joined-more : {A : Type 0} (f : A → List ℕ) (xs : List A) (i : ℕ) (z : A) → i < length xs → joined f (drop i xs) ≡ f (getD xs i z) ++ joined f (drop (i + 1) xs)
+unfolding joined
+joined-more f xs i z h = ap (joined f) (drop-cons xs i z h) ∙ ap (λ (n : ℕ). f (getD xs i z) ++ joined f (drop n xs)) (sym (add-one i))
+
+pub joined-all : {A : Type 0} (f : A → List ℕ) (xs : List A) (i : ℕ) → length xs ≤ i → joined f (drop i xs) ≡ []
+unfolding joined
+joined-all f xs i h = ap (joined f) (drop-of-length-le xs h)

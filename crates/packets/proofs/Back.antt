@@ -19,15 +19,18 @@ use Rattle.fields.specs.declared.header.MHDR.{MHDR}
 use Rattle.fields.specs.declared.header.PayloadType.{PayloadType}
 use Rattle.fields.specs.declared.header.PayloadType.the-variants.{Uplink, Downlink, Event, Command}
 use Rattle.fields.proofs.Laws.Header.{header-back}
-use Rattle.payloads.specs.Run.{runRefusal, runBytes}
-use Rattle.payloads.specs.Read.{bodyOf, uplinkAt, downlinkAt, eventAt, commandAt}
-use Rattle.payloads.specs.Write.{runOf, stamp, uplinkHead, uplinkWire, downlinkHead, downlinkWire, stampedWire, eventWire, commandWire}
-use Rattle.payloads.specs.declared.run.Run.{Run}
+use Rattle.wire.specs.Run.{runRefusal, runBytes}
+use Rattle.payloads.specs.Read.{uplinkAt, downlinkAt}
+use Rattle.events.specs.Read.{bodyOf, eventAt, commandAt}
+use Rattle.payloads.specs.Write.{uplinkHead, uplinkWire, downlinkHead, downlinkWire}
+use Rattle.events.specs.Write.{runOf, stamp, stampedWire, eventWire, commandWire}
+use Rattle.wire.specs.declared.run.Run.{Run}
 use Rattle.payloads.specs.declared.uplink.UplinkPayload.{UplinkPayload}
 use Rattle.payloads.specs.declared.downlink.DownlinkPayload.{DownlinkPayload}
-use Rattle.payloads.specs.declared.sealed.EventPayload.{EventPayload}
-use Rattle.payloads.specs.declared.sealed.CommandPayload.{CommandPayload}
-use Rattle.payloads.proofs.Laws.{unless-bytes, run-bytes, uplink-length, downlink-length, stamp-length, uplink-read-back, heard, downlink-read-back, event-read-back, command-read-back}
+use Rattle.events.specs.declared.stamped.EventPayload.{EventPayload}
+use Rattle.events.specs.declared.stamped.CommandPayload.{CommandPayload}
+use Rattle.payloads.proofs.Laws.{unless-bytes, run-bytes, uplink-length, downlink-length, uplink-read-back, heard, downlink-read-back}
+use Rattle.events.proofs.Laws.{stamp-length, event-read-back, command-read-back}
 use Rattle.packets.specs.Read.{ofUplink, ofDownlink, ofEvent, ofCommand, payloadAt, meshOf, packetOf}
 use Rattle.packets.specs.Write.{payloadWire, meshFrame, loraFrame}
 use Rattle.packets.specs.declared.mesh.Payload.{Payload}

@@ -21,26 +21,29 @@ use Rattle.fields.specs.declared.header.PayloadType.{PayloadType}
 use Rattle.fields.specs.declared.header.PayloadType.the-variants.{Uplink, Downlink, Event, Command}
 use Rattle.fields.proofs.Laws.Header.{marked, not-marked}
 use Rattle.fields.proofs.Laws.Meta.{not-refused}
-use Rattle.payloads.specs.Run.{runRefusal, runBytes}
-use Rattle.payloads.specs.Read.{bodyOf, uplinkAt, downlinkAt, eventAt, commandAt}
-use Rattle.payloads.specs.Write.{followed, withRun, runOf, stamp, uplinkHead, uplinkWire, downlinkHead, downlinkWire, stampedWire, eventWire, commandWire}
-use Rattle.payloads.specs.declared.run.Run.{Run}
-use Rattle.payloads.specs.declared.sealed.Body.{Body}
-use Rattle.payloads.specs.declared.sealed.Body.the-variants.{Empty, Sealed}
+use Rattle.wire.specs.Run.{runRefusal, runBytes}
+use Rattle.payloads.specs.Read.{uplinkAt, downlinkAt}
+use Rattle.events.specs.Read.{bodyOf, eventAt, commandAt}
+use Rattle.payloads.specs.Write.{followed, withRun, uplinkHead, uplinkWire, downlinkHead, downlinkWire}
+use Rattle.events.specs.Write.{runOf, stamp, stampedWire, eventWire, commandWire}
+use Rattle.wire.specs.declared.run.Run.{Run}
+use Rattle.events.specs.declared.stamped.Body.{Body}
+use Rattle.events.specs.declared.stamped.Body.the-variants.{Empty, Sealed}
 use Rattle.payloads.specs.declared.uplink.UplinkPayload.{UplinkPayload}
 use Rattle.payloads.specs.declared.uplink.UplinkRead.{UplinkRead}
 use Rattle.payloads.specs.declared.uplink.UplinkRead.the-variants.{Payload as UplinkIs, Refused as NoUplink}
 use Rattle.payloads.specs.declared.downlink.DownlinkPayload.{DownlinkPayload}
 use Rattle.payloads.specs.declared.downlink.DownlinkRead.{DownlinkRead}
 use Rattle.payloads.specs.declared.downlink.DownlinkRead.the-variants.{Payload as DownlinkIs, Refused as NoDownlink}
-use Rattle.payloads.specs.declared.sealed.EventPayload.{EventPayload}
-use Rattle.payloads.specs.declared.sealed.EventRead.{EventRead}
-use Rattle.payloads.specs.declared.sealed.EventRead.the-variants.{Payload as EventIs, Refused as NoEvent}
-use Rattle.payloads.specs.declared.sealed.CommandPayload.{CommandPayload}
-use Rattle.payloads.specs.declared.sealed.CommandRead.{CommandRead}
-use Rattle.payloads.specs.declared.sealed.CommandRead.the-variants.{Payload as CommandIs, Refused as NoCommand}
+use Rattle.events.specs.declared.stamped.EventPayload.{EventPayload}
+use Rattle.events.specs.declared.stamped.EventRead.{EventRead}
+use Rattle.events.specs.declared.stamped.EventRead.the-variants.{Payload as EventIs, Refused as NoEvent}
+use Rattle.events.specs.declared.stamped.CommandPayload.{CommandPayload}
+use Rattle.events.specs.declared.stamped.CommandRead.{CommandRead}
+use Rattle.events.specs.declared.stamped.CommandRead.the-variants.{Payload as CommandIs, Refused as NoCommand}
 use Rattle.payloads.proofs.Steps.{listed}
-use Rattle.payloads.proofs.Laws.{uplink-was, uplink-again, downlink-was, downlink-again, event-was, event-again, command-was, command-again}
+use Rattle.payloads.proofs.Laws.{uplink-was, uplink-again, downlink-was, downlink-again}
+use Rattle.events.proofs.Laws.{event-was, event-again, command-was, command-again}
 use Rattle.packets.specs.Read.{bodyIn, ofUplink, ofDownlink, ofEvent, ofCommand, payloadAt, meshOf}
 use Rattle.packets.specs.Write.{payloadWire, meshFrame}
 use Rattle.packets.specs.Which.{cleared}

@@ -9,8 +9,8 @@ use Rattle.base.specs.declared.Written.the-variants.{Refused}
 use Rattle.fields.specs.Header.{headerByte}
 use Rattle.fields.specs.declared.header.HeaderByte.{HeaderByte}
 use Rattle.fields.specs.declared.header.HeaderByte.the-variants.{Byte, Refused as NoByte}
-use Rattle.payloads.specs.Run.{runRefusal, runBytes}
-use Rattle.payloads.specs.declared.run.Run.{Run}
+use Rattle.wire.specs.Run.{runRefusal, runBytes}
+use Rattle.wire.specs.declared.run.Run.{Run}
 use Rattle.payloads.specs.Write.{prefixed, withMic}
 use Rattle.payloads.proofs.Steps.{Outcome}
 use Rattle.packets.specs.Write.{behind, payloadWire, messageOf, meshFrame, loraFrame}

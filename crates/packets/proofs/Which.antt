@@ -16,7 +16,8 @@ use Rattle.fields.specs.declared.header.PayloadType.{PayloadType}
 use Rattle.fields.specs.declared.header.PayloadType.the-variants.{Uplink, Downlink, Event, Command}
 use Rattle.fields.specs.declared.header.HeaderRead.the-variants.{Header}
 use Rattle.fields.proofs.Laws.Header.{Marked, marked, not-marked}
-use Rattle.payloads.specs.Read.{uplinkAt, downlinkAt, stampedAt, eventAt, commandAt}
+use Rattle.payloads.specs.Read.{uplinkAt, downlinkAt}
+use Rattle.events.specs.Read.{stampedAt, eventAt, commandAt}
 use Rattle.packets.specs.Read.{bodyIn, payloadAt, withPayload, withHeader, meshOf}
 use Rattle.packets.specs.Which.{leastFrame, numberOf, meshNumber}
 

@@ -13,15 +13,16 @@ use Rattle.fields.specs.declared.header.PayloadType.{PayloadType}
 use Rattle.fields.specs.declared.header.PayloadType.the-variants.{Uplink, Downlink, Event, Command}
 use Rattle.fields.specs.declared.header.HeaderRead.{HeaderRead}
 use Rattle.fields.specs.declared.header.HeaderRead.the-variants.{Header, Refused as NoHeader}
-use Rattle.payloads.specs.Read.{fourAt, uplinkAt, downlinkAt, eventAt, commandAt}
+use Rattle.payloads.specs.Read.{fourAt, uplinkAt, downlinkAt}
+use Rattle.events.specs.Read.{eventAt, commandAt}
 use Rattle.payloads.specs.declared.uplink.UplinkRead.{UplinkRead}
 use Rattle.payloads.specs.declared.uplink.UplinkRead.the-variants.{Payload as UplinkIs, Refused as NoUplink}
 use Rattle.payloads.specs.declared.downlink.DownlinkRead.{DownlinkRead}
 use Rattle.payloads.specs.declared.downlink.DownlinkRead.the-variants.{Payload as DownlinkIs, Refused as NoDownlink}
-use Rattle.payloads.specs.declared.sealed.EventRead.{EventRead}
-use Rattle.payloads.specs.declared.sealed.EventRead.the-variants.{Payload as EventIs, Refused as NoEvent}
-use Rattle.payloads.specs.declared.sealed.CommandRead.{CommandRead}
-use Rattle.payloads.specs.declared.sealed.CommandRead.the-variants.{Payload as CommandIs, Refused as NoCommand}
+use Rattle.events.specs.declared.stamped.EventRead.{EventRead}
+use Rattle.events.specs.declared.stamped.EventRead.the-variants.{Payload as EventIs, Refused as NoEvent}
+use Rattle.events.specs.declared.stamped.CommandRead.{CommandRead}
+use Rattle.events.specs.declared.stamped.CommandRead.the-variants.{Payload as CommandIs, Refused as NoCommand}
 use Rattle.packets.specs.declared.mesh.Payload.{Payload}
 use Rattle.packets.specs.declared.mesh.Payload.the-variants.{Uplink as AnUplink, Downlink as ADownlink, Event as AnEvent, Command as ACommand}
 use Rattle.packets.specs.declared.mesh.PayloadRead.{PayloadRead}

@@ -12,9 +12,10 @@ use Rattle.fields.specs.Meta.{unlessRefused}
 use Rattle.fields.specs.declared.header.MHDR.{MHDR}
 use Rattle.fields.specs.declared.header.HeaderByte.{HeaderByte}
 use Rattle.fields.specs.declared.header.HeaderByte.the-variants.{Byte, Refused as NoByte}
-use Rattle.payloads.specs.Run.{runRefusal, runBytes}
-use Rattle.payloads.specs.Write.{prefixed, withMic, uplinkWire, downlinkWire, eventWire, commandWire}
-use Rattle.payloads.specs.declared.run.Run.{Run}
+use Rattle.wire.specs.Run.{runRefusal, runBytes}
+use Rattle.payloads.specs.Write.{prefixed, withMic, uplinkWire, downlinkWire}
+use Rattle.events.specs.Write.{eventWire, commandWire}
+use Rattle.wire.specs.declared.run.Run.{Run}
 use Rattle.packets.specs.declared.mesh.Payload.{Payload}
 use Rattle.packets.specs.declared.mesh.Payload.the-variants.{Uplink, Downlink, Event, Command}
 use Rattle.packets.specs.declared.mesh.MeshPacket.{MeshPacket}

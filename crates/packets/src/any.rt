@@ -9,7 +9,7 @@ use base::Limit;
 use base::Refusal;
 use base::Written;
 use fields::MHDR;
-use payloads::Run;
+use wire::Run;
 use wire::emit;
 
 pub enum Packet {

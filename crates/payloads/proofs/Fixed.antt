@@ -7,12 +7,6 @@ use Rattle.base.specs.declared.Checked.{Checked}
 use Rattle.base.proofs.Outcome.{Fixed, FixedPart}
 use Rattle.payloads.specs.declared.uplink.UplinkHead.{UplinkHead}
 use Rattle.payloads.specs.declared.downlink.DownlinkHead.{DownlinkHead}
-use Rattle.payloads.proofs.run.Run.refusal.Kinds as run-refusal-kinds
-use Rattle.payloads.proofs.run.Run.refusal.Reads as run-refusal-reads
-use Rattle.payloads.proofs.run.Run.bytes.Kinds as run-bytes-kinds
-use Rattle.payloads.proofs.run.Run.bytes.Reads as run-bytes-reads
-use Rattle.payloads.proofs.run.Run.part.Kinds as run-part-kinds
-use Rattle.payloads.proofs.run.Run.part.Reads as run-part-reads
 use Rattle.payloads.proofs.uplink.UplinkPayload.read_at.Kinds as uplink-read-at-kinds
 use Rattle.payloads.proofs.uplink.UplinkPayload.read_at.Reads as uplink-read-at-reads
 use Rattle.payloads.proofs.uplink.UplinkPayload.from_slice.Kinds as uplink-from-slice-kinds
@@ -33,35 +27,10 @@ use Rattle.payloads.proofs.downlink.DownlinkPayload.write.Kinds as down
 use Rattle.payloads.proofs.downlink.DownlinkPayload.write.Reads as downlink-write-reads
 use Rattle.payloads.proofs.downlink.DownlinkPayload.write_in.Kinds as downlink-write-in-kinds
 use Rattle.payloads.proofs.downlink.DownlinkPayload.write_in.Reads as downlink-write-in-reads
-use Rattle.payloads.proofs.sealed.EventPayload.read_at.Kinds as event-read-at-kinds
-use Rattle.payloads.proofs.sealed.EventPayload.read_at.Reads as event-read-at-reads
-use Rattle.payloads.proofs.sealed.EventPayload.from_slice.Kinds as event-from-slice-kinds
-use Rattle.payloads.proofs.sealed.EventPayload.from_slice.Reads as event-from-slice-reads
-use Rattle.payloads.proofs.sealed.EventPayload.write.Kinds as event-write-kinds
-use Rattle.payloads.proofs.sealed.EventPayload.write.Reads as event-write-reads
-use Rattle.payloads.proofs.sealed.EventPayload.write_in.Kinds as event-write-in-kinds
-use Rattle.payloads.proofs.sealed.EventPayload.write_in.Reads as event-write-in-reads
-use Rattle.payloads.proofs.sealed.CommandPayload.read_at.Kinds as command-read-at-kinds
-use Rattle.payloads.proofs.sealed.CommandPayload.read_at.Reads as command-read-at-reads
-use Rattle.payloads.proofs.sealed.CommandPayload.from_slice.Kinds as command-from-slice-kinds
-use Rattle.payloads.proofs.sealed.CommandPayload.from_slice.Reads as command-from-slice-reads
-use Rattle.payloads.proofs.sealed.CommandPayload.write.Kinds as command-write-kinds
-use Rattle.payloads.proofs.sealed.CommandPayload.write.Reads as command-write-reads
-use Rattle.payloads.proofs.sealed.CommandPayload.write_in.Kinds as command-write-in-kinds
-use Rattle.payloads.proofs.sealed.CommandPayload.write_in.Reads as command-write-in-reads
 use Rattle.payloads.proofs.emit.write_body.Kinds as write-body-kinds
 use Rattle.payloads.proofs.emit.write_body.Reads as write-body-reads
 use Rattle.payloads.proofs.emit.write_frame.Kinds as write-frame-kinds
 use Rattle.payloads.proofs.emit.write_frame.Reads as write-frame-reads
-
-run-refusal : Fixed 0 run-refusal-kinds.ps run-refusal-kinds.r run-refusal-reads.Post
-run-refusal κs a x y v w p q = (p ∙ sym q, refl)
-
-run-bytes : FixedPart 1 run-bytes-kinds.ps run-bytes-kinds.r run-bytes-reads.Post (λ κs x. now x)
-run-bytes κs a x y v w p q = (p ∙ sym q, refl)
-
-run-part : FixedPart 2 run-part-kinds.ps run-part-kinds.r run-part-reads.Post (λ κs x. now x)
-run-part κs a x y v w p q = (p .0 ∙ sym (q .0), ap (λ (l : ℕ). (tt, (tt, (l, tt)))) (p .1 ∙ sym (q .1)))
 
 uplink-read-at : Fixed 1 uplink-read-at-kinds.ps uplink-read-at-kinds.r uplink-read-at-reads.Post
 uplink-read-at κs a x y v w p q = (p ∙ sym q, refl)
@@ -92,30 +61,6 @@ downlink-write κs a x y v w p q = (p .0 ∙ sym (q .0), ap (λ (l : List ℕ). 
 
 downlink-write-in : Fixed 2 downlink-write-in-kinds.ps downlink-write-in-kinds.r downlink-write-in-reads.Post
 downlink-write-in κs a x y v w p q = (p .0 ∙ sym (q .0), ap (λ (l : List ℕ). (tt, (tt, (tt, (tt, (tt, (l, tt))))))) (p .1 ∙ sym (q .1)))
-
-event-read-at : Fixed 1 event-read-at-kinds.ps event-read-at-kinds.r event-read-at-reads.Post
-event-read-at κs a x y v w p q = (p ∙ sym q, refl)
-
-event-from-slice : Fixed 1 event-from-slice-kinds.ps event-from-slice-kinds.r event-from-slice-reads.Post
-event-from-slice κs a x y v w p q = (p ∙ sym q, refl)
-
-event-write : Fixed 2 event-write-kinds.ps event-write-kinds.r event-write-reads.Post
-event-write κs a x y v w p q = (p .0 ∙ sym (q .0), ap (λ (l : List ℕ). (tt, (tt, (l, tt)))) (p .1 ∙ sym (q .1)))
-
-event-write-in : Fixed 2 event-write-in-kinds.ps event-write-in-kinds.r event-write-in-reads.Post
-event-write-in κs a x y v w p q = (p .0 ∙ sym (q .0), ap (λ (l : List ℕ). (tt, (tt, (tt, (tt, (tt, (l, tt))))))) (p .1 ∙ sym (q .1)))
-
-command-read-at : Fixed 1 command-read-at-kinds.ps command-read-at-kinds.r command-read-at-reads.Post
-command-read-at κs a x y v w p q = (p ∙ sym q, refl)
-
-command-from-slice : Fixed 1 command-from-slice-kinds.ps command-from-slice-kinds.r command-from-slice-reads.Post
-command-from-slice κs a x y v w p q = (p ∙ sym q, refl)
-
-command-write : Fixed 2 command-write-kinds.ps command-write-kinds.r command-write-reads.Post
-command-write κs a x y v w p q = (p .0 ∙ sym (q .0), ap (λ (l : List ℕ). (tt, (tt, (l, tt)))) (p .1 ∙ sym (q .1)))
-
-command-write-in : Fixed 2 command-write-in-kinds.ps command-write-in-kinds.r command-write-in-reads.Post
-command-write-in κs a x y v w p q = (p .0 ∙ sym (q .0), ap (λ (l : List ℕ). (tt, (tt, (tt, (tt, (tt, (l, tt))))))) (p .1 ∙ sym (q .1)))
 
 write-body : Fixed 3 write-body-kinds.ps write-body-kinds.r write-body-reads.Post
 write-body κs a x y v w p q = (p .0 ∙ sym (q .0), ap (λ (l : List ℕ). (tt, (tt, (l, tt)))) (p .1 ∙ sym (q .1)))

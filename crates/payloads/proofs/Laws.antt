@@ -1,4 +1,4 @@
--- Laws of the four bodies: how long their heads are, that what is written is read back, and that what was read is written as the same bytes.
+-- Laws of uplink and downlink bodies: how long their heads are, that what is written is read back, and that what was read is written as the same bytes.
 -- Assumes nothing.
 use Prim.Native.Nat.{ℕ, _+_, _-_, _%_, _≤_, _<_}
 use native.Mathlib.Omega.{arith}
@@ -20,22 +20,15 @@ use Rattle.fields.specs.declared.meta.UplinkMetadata.{UplinkMetadata}
 use Rattle.fields.specs.declared.meta.DownlinkMetadata.{DownlinkMetadata}
 use Rattle.fields.proofs.Laws.Bytes.{none, _▸_, small}
 use Rattle.fields.proofs.Laws.Meta.{signals, up-back, up-again, down-back, down-again}
-use Rattle.payloads.specs.Run.{runRefusal, runBytes}
-use Rattle.payloads.specs.Read.{fourAt, bodyOf, uplinkAt, downlinkAt, stampedAt, asEvent, eventAt, asCommand, commandAt}
-use Rattle.payloads.specs.Write.{followed, withRun, uplinkHead, downlinkHead, stamp}
-use Rattle.payloads.specs.declared.run.Run.{Run}
+use Rattle.wire.specs.Run.{runRefusal, runBytes}
+use Rattle.payloads.specs.Read.{fourAt, uplinkAt, downlinkAt}
+use Rattle.payloads.specs.Write.{followed, withRun, uplinkHead, downlinkHead}
+use Rattle.wire.specs.declared.run.Run.{Run}
 use Rattle.payloads.specs.declared.uplink.UplinkPayload.{UplinkPayload}
 use Rattle.payloads.specs.declared.uplink.UplinkRead.the-variants.{Payload as AnUplink}
 use Rattle.payloads.specs.declared.downlink.DownlinkPayload.{DownlinkPayload}
 use Rattle.payloads.specs.declared.downlink.DownlinkRead.the-variants.{Payload as ADownlink}
-use Rattle.payloads.specs.declared.sealed.EventPayload.{EventPayload}
-use Rattle.payloads.specs.declared.sealed.EventRead.the-variants.{Payload as AnEvent}
-use Rattle.payloads.specs.declared.sealed.CommandPayload.{CommandPayload}
-use Rattle.payloads.specs.declared.sealed.CommandRead.the-variants.{Payload as ACommand}
-use Rattle.payloads.specs.declared.sealed.Stamped.{Stamped}
-use Rattle.payloads.specs.declared.sealed.StampedRead.{StampedRead}
-use Rattle.payloads.specs.declared.sealed.StampedRead.the-variants.{Stamped as AStamped, Refused as NoStamped}
-use Rattle.payloads.proofs.Steps.{listed, uplink-is, downlink-is, stamped-is}
+use Rattle.payloads.proofs.Steps.{listed, uplink-is, downlink-is}
 
 -- ---- what a frame of bytes came of
 
@@ -73,7 +66,7 @@ pub down-length : (m : DownlinkMetadata) (w : List ℕ) → downWire m ≡ bytes
 down-length m w e = down-back m w e .0
 
 -- four bytes behind n
-with-four : (u w : List ℕ) (v n : ℕ) → w ≡ u ++ beBytes 4 v → length u ≡ n → length w ≡ n + 4
+pub with-four : (u w : List ℕ) (v n : ℕ) → w ≡ u ++ beBytes 4 v → length u ≡ n → length w ≡ n + 4
 with-four u w v n e h = let b = be-length 4 v in ap length e ∙ length-append u (beBytes 4 v) ∙ omega arith
 
 pub uplink-length : (p : UplinkPayload) (w : List ℕ) → uplinkHead p ≡ bytes w → length w ≡ 9
@@ -88,21 +81,17 @@ downlink-length p w e =
     let g = followed-bytes (downWire (p .metadata)) (beBytes 4 (p .«relay_id»)) w e in
     with-four (g .0) w (p .«relay_id») 6 (g .2) (down-length (p .metadata) (g .0) (g .1))
 
-pub stamp-length : (t r : ℕ) → length (stamp t r) ≡ 8
-unfolding stamp
-stamp-length t r = with-four (beBytes 4 t) (beBytes 4 t ++ beBytes 4 r) r 4 refl (be-length 4 t)
-
 -- ---- reading what was written
 
 -- four bytes by their index, and what they are
-four : (v : ℕ) → from 4 0 (λ i. getD (beBytes 4 v) i 0) ≡ beBytes 4 v
+pub four : (v : ℕ) → from 4 0 (λ i. getD (beBytes 4 v) i 0) ≡ beBytes 4 v
 four v = listed 4 (beBytes 4 v) (be-length 4 v)
 
-four-is : (v : ℕ) → v < 4294967296 → beOf (from 4 0 (λ i. getD (beBytes 4 v) i 0)) ≡ v
+pub four-is : (v : ℕ) → v < 4294967296 → beOf (from 4 0 (λ i. getD (beBytes 4 v) i 0)) ≡ v
 four-is v h = ap beOf (four v) ∙ of-bytes 4 v h
 
 -- a head of n bytes and four, by their index
-spelt : (n : ℕ) (u : List ℕ) (v : ℕ) → length u ≡ n → u ++ beBytes 4 v ≡ from n 0 (λ i. getD u i 0) ++ from 4 0 (λ i. getD (beBytes 4 v) i 0)
+pub spelt : (n : ℕ) (u : List ℕ) (v : ℕ) → length u ≡ n → u ++ beBytes 4 v ≡ from n 0 (λ i. getD u i 0) ++ from 4 0 (λ i. getD (beBytes 4 v) i 0)
 spelt n u v h = ap₂ {B = List ℕ} (λ (x y : List ℕ). x ++ y) (sym (listed n u h)) (sym (four v))
 
 pub uplink-read-back : (p : UplinkPayload) (h v : List ℕ) (at : ℕ) → uplinkHead p ≡ bytes h → p .metadata .channel < 256 → p .«relay_id» < 4294967296 → length v ≤ 8178
@@ -146,27 +135,10 @@ downlink-read-back p h v at e hr hv =
     ∙ sym (downlink-is at b (omega arith) (omega arith) (heard (p .metadata) h) (p .«relay_id») (m ∙ sym (ap downOf (listed 6 u (k .0)) ∙ k .2)) (sym (four-is (p .«relay_id») hr)))
     ∙ ap (λ (n : ℕ). ADownlink (record { metadata = heard (p .metadata) h; «relay_id» = p .«relay_id»; «phy_payload» = record { start = 10 + at; len = n } })) l
 
-module _ (t r : ℕ) (v : List ℕ) (at : ℕ) (ht : t < 4294967296) (hr : r < 4294967296) (hv : length v ≤ 8179) where
-  stamped-read-back : stampedAt at (stamp t r ++ v) ≡ AStamped (record { timestamp = t; «relay_id» = r; body = bodyOf (8 + at) (length v) })
-  unfolding stamp
-  stamped-read-back =
-      let b = from 4 0 (λ i. getD (beBytes 4 t) i 0) ++ from 4 0 (λ i. getD (beBytes 4 r) i 0) ++ v in
-      let l : length b - 8 ≡ length v = omega arith in
-      ap (λ (x : List ℕ). stampedAt at (x ++ v)) (spelt 4 (beBytes 4 t) r (be-length 4 t))
-      ∙ sym (stamped-is at b (omega arith) (omega arith) t r (bodyOf (8 + at) (length v)) (sym (four-is t ht)) (sym (four-is r hr)) (ap (bodyOf (8 + at)) (sym l)))
-
-  pub event-read-back : eventAt at (stamp t r ++ v) ≡ AnEvent (record { timestamp = t; «relay_id» = r; events = bodyOf (8 + at) (length v) })
-  unfolding eventAt
-  event-read-back = ap asEvent stamped-read-back
-
-  pub command-read-back : commandAt at (stamp t r ++ v) ≡ ACommand (record { timestamp = t; «relay_id» = r; commands = bodyOf (8 + at) (length v) })
-  unfolding commandAt
-  command-read-back = ap asCommand stamped-read-back
-
 -- ---- writing what was read
 
 -- neither of two refusals was picked
-third : {A : Type 0} (s t : Bool) (x y z w : A) → (x ≡ w → ⊥) → (y ≡ w → ⊥) → pick s x (pick t y z) ≡ w → (s ≡ false) × (t ≡ false) × (z ≡ w)
+pub third : {A : Type 0} (s t : Bool) (x y z w : A) → (x ≡ w → ⊥) → (y ≡ w → ⊥) → pick s x (pick t y z) ≡ w → (s ≡ false) × (t ≡ false) × (z ≡ w)
 third true t x y z w hx hy e = absurd (hx e)
 third false true x y z w hx hy e = absurd (hy e)
 third false false x y z w hx hy e = (refl, refl, e)
@@ -217,47 +189,3 @@ module _ (at : ℕ) (b : List ℕ) where
       ∙ ap₂ followed
       (down-again (getD b 0 0 ∷ getD b 1 0 ∷ getD b 2 0 ∷ getD b 3 0 ∷ getD b 4 0 ∷ getD b 5 0 ∷ []) refl (small (h 0 ▸ h 1 ▸ h 2 ▸ h 3 ▸ h 4 ▸ h 5 ▸ none)))
       (bytes-of (getD b 6 0 ∷ getD b 7 0 ∷ getD b 8 0 ∷ getD b 9 0 ∷ []) (small (h 6 ▸ h 7 ▸ h 8 ▸ h 9 ▸ none)))
-
-  pub record StampedIs (p : Stamped) : Type 0 where
-    pub most : length b ≤ 8187
-    pub least : 8 ≤ length b
-    pub time-is : p .timestamp ≡ fourAt b 0
-    pub relay-is : p .«relay_id» ≡ fourAt b 4
-    pub body-is : p .body ≡ bodyOf (8 + at) (length b - 8)
-
-  stamped-was : (p : Stamped) → stampedAt at b ≡ AStamped p → StampedIs p
-  unfolding stampedAt
-  stamped-was p e =
-      let t = third (ltb 8187 (length b)) (ltb (length b) 8) _ _ _ (AStamped p) (λ q. let z : _≡_ {A = ℕ} 0 1 = cc in omega arith) (λ q. let z : _≡_ {A = ℕ} 0 1 = cc in omega arith) e in
-      record { most = ltb-false _ _ (t .0); least = ltb-false _ _ (t .1); time-is = cc; relay-is = cc; body-is = cc }
-
-  stamped-again : (p : Stamped) → Bytes b → StampedIs p → stamp (p .timestamp) (p .«relay_id») ≡ from 8 0 (λ i. getD b i 0)
-  unfolding stamp
-  stamped-again p h w =
-      ap₂ (λ (t r : ℕ). beBytes 4 t ++ beBytes 4 r) (w .time-is) (w .relay-is)
-      ∙ ap₂ {B = List ℕ} (λ (x y : List ℕ). x ++ y)
-      (bytes-of (getD b 0 0 ∷ getD b 1 0 ∷ getD b 2 0 ∷ getD b 3 0 ∷ []) (small (h 0 ▸ h 1 ▸ h 2 ▸ h 3 ▸ none)))
-      (bytes-of (getD b 4 0 ∷ getD b 5 0 ∷ getD b 6 0 ∷ getD b 7 0 ∷ []) (small (h 4 ▸ h 5 ▸ h 6 ▸ h 7 ▸ none)))
-
-  -- what an event or a command was read from
-  as-event : (s : StampedRead) (p : EventPayload) → asEvent s ≡ AnEvent p → s ≡ AStamped (record { timestamp = p .timestamp; «relay_id» = p .«relay_id»; body = p .events })
-  as-event (NoStamped n) p e = let z : _≡_ {A = ℕ} 0 1 = cc in absurd (omega arith)
-  as-event (AStamped s) p e = ap (λ (q : EventPayload). AStamped (record { timestamp = q .timestamp; «relay_id» = q .«relay_id»; body = q .events })) (cc)
-
-  as-command : (s : StampedRead) (p : CommandPayload) → asCommand s ≡ ACommand p → s ≡ AStamped (record { timestamp = p .timestamp; «relay_id» = p .«relay_id»; body = p .commands })
-  as-command (NoStamped n) p e = let z : _≡_ {A = ℕ} 0 1 = cc in absurd (omega arith)
-  as-command (AStamped s) p e = ap (λ (q : CommandPayload). AStamped (record { timestamp = q .timestamp; «relay_id» = q .«relay_id»; body = q .commands })) (cc)
-
-  pub event-was : (p : EventPayload) → eventAt at b ≡ AnEvent p → StampedIs (record { timestamp = p .timestamp; «relay_id» = p .«relay_id»; body = p .events })
-  unfolding eventAt
-  event-was p e = stamped-was _ (as-event (stampedAt at b) p e)
-
-  pub command-was : (p : CommandPayload) → commandAt at b ≡ ACommand p → StampedIs (record { timestamp = p .timestamp; «relay_id» = p .«relay_id»; body = p .commands })
-  unfolding commandAt
-  command-was p e = stamped-was _ (as-command (stampedAt at b) p e)
-
-  pub event-again : (p : EventPayload) → Bytes b → eventAt at b ≡ AnEvent p → stamp (p .timestamp) (p .«relay_id») ≡ from 8 0 (λ i. getD b i 0)
-  event-again p h e = stamped-again _ h (event-was p e)
-
-  pub command-again : (p : CommandPayload) → Bytes b → commandAt at b ≡ ACommand p → stamp (p .timestamp) (p .«relay_id») ≡ from 8 0 (λ i. getD b i 0)
-  command-again p h e = stamped-again _ h (command-was p e)

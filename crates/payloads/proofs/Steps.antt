@@ -21,14 +21,12 @@ use Rattle.fields.proofs.Laws.Meta.{is-refused, not-refused}
 use Rattle.fields.specs.Meta.{upOf, downOf}
 use Rattle.fields.specs.declared.meta.UplinkMetadata.{UplinkMetadata}
 use Rattle.fields.specs.declared.meta.DownlinkMetadata.{DownlinkMetadata}
-use Rattle.payloads.specs.Run.{runRefusal, runBytes}
-use Rattle.payloads.specs.Read.{fourAt, bodyOf, uplinkAt, downlinkAt, stampedAt}
+use Rattle.wire.specs.Run.{runRefusal, runBytes}
+use Rattle.payloads.specs.Read.{fourAt, uplinkAt, downlinkAt}
 use Rattle.payloads.specs.Write.{followed, prefixed, limited, limitedOf, withMic, withRun}
-use Rattle.payloads.specs.declared.run.Run.{Run}
+use Rattle.wire.specs.declared.run.Run.{Run}
 use Rattle.payloads.specs.declared.uplink.UplinkRead.the-variants.{Payload as AnUplink}
 use Rattle.payloads.specs.declared.downlink.DownlinkRead.the-variants.{Payload as ADownlink}
-use Rattle.payloads.specs.declared.sealed.Body.{Body}
-use Rattle.payloads.specs.declared.sealed.StampedRead.the-variants.{Stamped as AStamped}
 
 -- a list is its elements, one after the other
 pub listed : (n : ℕ) (w : List ℕ) → length w ≡ n → from n 0 (λ i. getD w i 0) ≡ w
@@ -50,11 +48,6 @@ module _ (at : ℕ) (b : List ℕ) (h : length b ≤ 8187) where
       → ADownlink (record { metadata = m; «relay_id» = r; «phy_payload» = record { start = 10 + at; len = length b - 10 } }) ≡ downlinkAt at b
   unfolding downlinkAt
   downlink-is l m r em er = rw (em, er) (simp (le-ltb 8187 (length b) h, le-ltb (length b) 10 l))
-
-  pub stamped-is : 8 ≤ length b → (t r : ℕ) (v : Body) → t ≡ fourAt b 0 → r ≡ fourAt b 4 → v ≡ bodyOf (8 + at) (length b - 8)
-      → AStamped (record { timestamp = t; «relay_id» = r; body = v }) ≡ stampedAt at b
-  unfolding stampedAt
-  stamped-is l t r v et er ev = rw (et, er, ev) (simp (le-ltb 8187 (length b) h, le-ltb (length b) 8 l))
 
 -- ---- what a writer answers and leaves
 

@@ -1,3 +1,2 @@
-pub mod Run
 pub mod Read
 pub mod Write

@@ -10,15 +10,10 @@ use Rattle.base.specs.Numbers.{frameLong, micMissing}
 use Rattle.base.specs.Answers.{Frame, bytes, refused}
 use Rattle.wire.specs.Number.{beBytes}
 use Rattle.fields.specs.Meta.{unlessRefused, upWire, downWire}
-use Rattle.payloads.specs.Run.{runRefusal, runBytes}
+use Rattle.wire.specs.Run.{runRefusal, runBytes}
 use Rattle.payloads.specs.declared.uplink.UplinkPayload.{UplinkPayload}
 use Rattle.payloads.specs.declared.downlink.DownlinkPayload.{DownlinkPayload}
-use Rattle.payloads.specs.declared.run.Run.{Run}
-use Rattle.payloads.specs.declared.sealed.Body.{Body}
-use Rattle.payloads.specs.declared.sealed.Body.the-variants.{Empty, Sealed}
-use Rattle.payloads.specs.declared.sealed.EventPayload.{EventPayload}
-use Rattle.payloads.specs.declared.sealed.CommandPayload.{CommandPayload}
-use Rattle.payloads.specs.declared.sealed.Stamped.{Stamped}
+use Rattle.wire.specs.declared.run.Run.{Run}
 
 -- what is written, with more behind it
 abbrev pub followed : Frame → List ℕ → Frame
@@ -58,26 +53,3 @@ downlinkHead p = followed (downWire (p .metadata)) (beBytes 4 (p .«relay_id»))
 
 unfoldable pub downlinkWire : List ℕ → DownlinkPayload → Frame
 downlinkWire s p = withRun s (p .«phy_payload») (downlinkHead p)
-
--- timestamp and relay id
-unfoldable pub stamp : ℕ → ℕ → List ℕ
-stamp time relay = beBytes 4 time ++ beBytes 4 relay
-
-abbrev pub runOf : Body → Run
-runOf Empty = record { start = 0; len = 0 }
-runOf (Sealed r) = r
-
-unfoldable pub stampedWire : List ℕ → Stamped → Frame
-stampedWire s p = withRun s (runOf (p .body)) (bytes (stamp (p .timestamp) (p .«relay_id»)))
-
-abbrev pub stampedOfEvent : EventPayload → Stamped
-stampedOfEvent p = record { timestamp = p .timestamp; «relay_id» = p .«relay_id»; body = p .events }
-
-abbrev pub stampedOfCommand : CommandPayload → Stamped
-stampedOfCommand p = record { timestamp = p .timestamp; «relay_id» = p .«relay_id»; body = p .commands }
-
-unfoldable pub eventWire : List ℕ → EventPayload → Frame
-eventWire s p = stampedWire s (stampedOfEvent p)
-
-unfoldable pub commandWire : List ℕ → CommandPayload → Frame
-commandWire s p = stampedWire s (stampedOfCommand p)

@@ -5,12 +5,12 @@ ghost use Rattle.payloads.specs.Read.{downlinkAt};
 ghost use Rattle.payloads.specs.Write.{downlinkHead, downlinkWire, limitedOf, prefixed, withMic};
 use crate::emit::write_body;
 use crate::emit::write_frame;
-use crate::run::Run;
 use base::Checked;
 use base::Limit;
 use base::Refusal;
 use base::Written;
 use fields::DownlinkMetadata;
+use wire::Run;
 use wire::be32_bytes;
 use wire::be32_of;
 

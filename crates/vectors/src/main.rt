@@ -24,7 +24,7 @@ use packets::MeshPacket;
 use packets::Packet;
 use packets::PacketRead;
 use packets::Payload;
-use payloads::Run;
+use wire::Run;
 use wire::be32_bytes;
 use wire::part;
 use wire::read_hex;

@@ -36,6 +36,12 @@ use Rattle.wire.proofs.hex.read_hex.Kinds as read-hex-kinds
 use Rattle.wire.proofs.hex.read_hex.Reads as read-hex-reads
 use Rattle.wire.proofs.hex.write_hex.Kinds as write-hex-kinds
 use Rattle.wire.proofs.hex.write_hex.Reads as write-hex-reads
+use Rattle.wire.proofs.run.Run.refusal.Kinds as run-refusal-kinds
+use Rattle.wire.proofs.run.Run.refusal.Reads as run-refusal-reads
+use Rattle.wire.proofs.run.Run.bytes.Kinds as run-bytes-kinds
+use Rattle.wire.proofs.run.Run.bytes.Reads as run-bytes-reads
+use Rattle.wire.proofs.run.Run.part.Kinds as run-part-kinds
+use Rattle.wire.proofs.run.Run.part.Reads as run-part-reads
 
 be16-of : Fixed 0 be16-of-kinds.ps be16-of-kinds.r be16-of-reads.Post
 be16-of κs a x y v w p q = (p ∙ sym q, refl)
@@ -84,3 +90,12 @@ read-hex κs a x y v w p q = (refl, ap (λ (l : List ℕ). (tt, (l, tt))) (p ∙
 
 write-hex : Fixed 2 write-hex-kinds.ps write-hex-kinds.r write-hex-reads.Post
 write-hex κs a x y v w p q = (refl, ap (λ (l : List ℕ). (tt, (l, (tt, tt)))) (p ∙ sym q))
+
+run-refusal : Fixed 0 run-refusal-kinds.ps run-refusal-kinds.r run-refusal-reads.Post
+run-refusal κs a x y v w p q = (p ∙ sym q, refl)
+
+run-bytes : FixedPart 1 run-bytes-kinds.ps run-bytes-kinds.r run-bytes-reads.Post (λ κs x. now x)
+run-bytes κs a x y v w p q = (p ∙ sym q, refl)
+
+run-part : FixedPart 2 run-part-kinds.ps run-part-kinds.r run-part-reads.Post (λ κs x. now x)
+run-part κs a x y v w p q = (p .0 ∙ sym (q .0), ap (λ (l : ℕ). (tt, (tt, (l, tt)))) (p .1 ∙ sym (q .1)))

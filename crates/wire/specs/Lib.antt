@@ -1,4 +1,5 @@
 pub mod Number
 pub mod Part
+pub mod Run
 pub mod Lay
 pub mod Hex

@@ -3,6 +3,7 @@ mod hex;
 mod lay;
 mod number;
 mod parts;
+mod run;
 
 pub use hex::digit;
 pub use hex::is_hex;
@@ -21,3 +22,4 @@ pub use parts::Reach;
 pub use parts::checked_part;
 pub use parts::part;
 pub use parts::reaches;
+pub use run::Run;

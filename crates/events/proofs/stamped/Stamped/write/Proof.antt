@@ -1,0 +1,30 @@
+-- `events::stamped::Stamped::write` meets its contract. Assumes nothing.
+use lib.ListN.{length}
+use Rattle.base.specs.Answers.{bytes}
+use Rattle.wire.specs.Run.{runRefusal, runBytes}
+use Rattle.events.specs.Write.{stamp, runOf, stampedWire}
+use Rattle.payloads.proofs.Steps.{run-outside, run-behind, body-refused, body-written}
+use borrow.Author.Needs.{needs}
+use mathlib.Core.Path.{sym, ap, _∙_}
+use denote.Ref.{now}
+use Rattle.events.proofs.stamped.Stamped.write.Statement.{statement}
+use Rattle.events.proofs.stamped.Stamped.write.Tie as tie
+
+returns : tie.Need-returns
+unfolding stampedWire
+returns c = let a = c .before .before .before .before .before .args in
+    let s = now (a .src) in
+    let h = bytes (stamp (a .self .timestamp) (a .self .«relay_id»)) in
+    body-refused _ _ _ (run-outside s (runOf (a .self .body)) h _ (c .before .refusal .ensures ∙ ap (runRefusal (length s)) (c .before .before .run .ensures)) (c .if1 .taken))
+
+returns-2 : tie.Need-returns-2
+unfolding stampedWire
+returns-2 c = let a = c .before .before .before .before .before .before .before .before .before .before .before .before .args in
+    let s = now (a .src) in
+    let h = bytes (stamp (a .self .timestamp) (a .self .«relay_id»)) in
+    let none = c .before .before .before .before .before .before .before .before .refusal .ensures ∙ ap (runRefusal (length s)) (c .before .before .before .before .before .before .before .before .before .run .ensures) in
+    let run = c .before .before .before .before .bytes .ensures ∙ ap (runBytes s) (c .before .before .before .before .before .before .before .before .before .run .ensures) in
+    body-written _ _ _ _ _ (run-behind s (runOf (a .self .body)) h _ _ _ none (c .before .before .before .before .before .before .before .if1 .left) (ap bytes (sym (c .before .before .before .before .before .before .head .ensures))) run) (c .before .before .write-body .ensures)
+
+pub write-spec : {M : Type 1} → statement M
+write-spec = tie.close (tie.spec (λ c κs. search needs) (λ c κs. search needs) returns (λ c κs. search needs) (λ c. search needs) (λ c κs. search needs) (λ c κs. search needs) (λ c. search needs) returns-2)
