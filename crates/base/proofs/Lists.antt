@@ -7,7 +7,7 @@ use native.Mathlib.Numerals.{add-one}
 use native.Mathlib.Omega.{arith}
 use lib.Bits.{bitXor, xor-zero-r, xor-lt}
 use lib.ListN.{length, getD, take, drop, set, replicate, drop-of-length-le}
-use lib.Seq.{ext-getD, drop-cons}
+use lib.Seq.{ext-getD, drop-cons, take-suc, length-take-le}
 use Rattle.base.specs.Lists.{from, Bytes, added, imap, orElse, firstOf, joined}
 use Rattle.base.proofs.Xor.{xor-assoc}
 
@@ -80,6 +80,14 @@ added-one [] p b = refl
 added-one (a ∷ x) [] b = ap {B = List ℕ} (λ l. bitXor a b ∷ l) (sym (added-none x))
 added-one (a ∷ x) (d ∷ p) b = ap {B = List ℕ} (λ l. bitXor a d ∷ l) (added-one x p b)
 
+-- the first i bytes of k are added to x, and the next is
+pub added-more : (x k : List ℕ) (i : ℕ) {y : List ℕ} → i < length k → y ≡ added x (take i k)
+    → set y i (bitXor (getD y i 0) (getD k i 0)) ≡ added x (take (i + 1) k)
+added-more x k i h e =
+    let q : length (take i k) ≡ i = length-take-le i k (omega arith) in
+    let p = rw q at (added-one x (take i k) (getD k i 0)) in
+    rw (e, add-one, take-suc k i 0 h) p
+
 pub added-zeros : (x : List ℕ) (n : ℕ) → added x (replicate n 0) ≡ x
 unfolding added
 added-zeros [] n = refl
@@ -128,6 +136,17 @@ imap-id f i (x ∷ s) e = e i x ◂ imap-id f (suc i) s e
 pub imap-twice : (f g : ℕ → ℕ → ℕ) (i : ℕ) (s : List ℕ) → imap f i (imap g i s) ≡ imap (λ k x. f k (g k x)) i s
 imap-twice f g i [] = refl
 imap-twice f g i (x ∷ s) = refl ◂ imap-twice f g (suc i) s
+
+-- a part of what is made of each element by its place
+pub imap-drop : (f : ℕ → ℕ → ℕ) (i n : ℕ) (s : List ℕ) → drop n (imap f i s) ≡ imap f (i + n) (drop n s)
+imap-drop f i zero s = rw add-zero
+imap-drop f i (suc n) [] = refl
+imap-drop f i (suc n) (x ∷ s) = imap-drop f (suc i) n s ∙ ap (λ (k : ℕ). imap f k (drop n s)) (suc-add i n ∙ sym (add-suc i n))
+
+pub imap-take : (f : ℕ → ℕ → ℕ) (i n : ℕ) (s : List ℕ) → take n (imap f i s) ≡ imap f i (take n s)
+imap-take f i zero s = refl
+imap-take f i (suc n) [] = refl
+imap-take f i (suc n) (x ∷ s) = refl ◂ imap-take f (suc i) n s
 
 -- the first refusal of a list, from the front: those before i gave none
 pub record Passed {A : Type 0} (f : A → ℕ) (xs : List A) (i : ℕ) : Type 0 where

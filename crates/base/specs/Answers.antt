@@ -30,6 +30,11 @@ pub data Frame : Type 0 where
   bytes : List ℕ → Frame
   refused : ℕ → Frame
 
+-- the refusal's number, 0 for none
+abbrev pub frameNumber : Frame → ℕ
+frameNumber (bytes w) = 0
+frameNumber (refused n) = n
+
 -- of a call that makes an array: the answer, and beside it the bytes, or n zeros where it refuses
 abbrev pub checkedOf : Frame → Checked
 checkedOf (bytes w) = checked.Accepted

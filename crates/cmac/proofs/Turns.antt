@@ -89,14 +89,6 @@ fill-more E s j c x h l p =
 pub rest-is : (s : List ℕ) (i : ℕ) → take (length s - i) (drop i s) ≡ drop i s
 rest-is s i = take-all (length s - i) (drop i s) (rw length-drop (omega arith))
 
--- a turn of the loop that adds the bytes of s
-pub added-more : (x s : List ℕ) (i : ℕ) {y : List ℕ} → i < length s → y ≡ added x (take i s)
-    → addedAt y i (getD s i 0) ≡ added x (take (i + 1) s)
-added-more x s i h e =
-    let q : length (take i s) ≡ i = length-take-le i s (omega arith) in
-    let p = rw q at (added-one x (take i s) (getD s i 0)) in
-    rw (e, add-one, take-suc s i 0 h) p
-
 -- the end, with a block in hand that is short, and with a full one; k is the subkey, of which the code adds 16 bytes
 pub finish-short : (E : List ℕ → List ℕ) (m : Mac) {k a r : List ℕ} → m .count < 16 → r ≡ E a
     → a ≡ added (addedAt (m .x) (m .count) 0x80) (take 16 k) → length k ≡ 16 → k ≡ k2 E → r ≡ finished E m

@@ -2,7 +2,7 @@
 use Prim.Native.Nat.{ℕ}
 use mathlib.Core.List.{List, [], _∷_}
 use lib.ListN.{getD}
-use Rattle.base.specs.Answers.{Frame, checkedOf, bytesOr}
+use Rattle.base.specs.Answers.{Frame, frameNumber, checkedOf, bytesOr}
 use Rattle.wire.specs.Number.{beOf, beBytes}
 use Rattle.fields.specs.Signal.{rssiOf, snrOf, rssiByte, snrByte}
 use Rattle.fields.specs.Meta.{afterRssi}
@@ -26,3 +26,10 @@ pathAnswer f = record { answer = checkedOf f; bytes = bytesOr 6 f }
 
 unfoldable pub pathBytes : RelayPath → PathBytes
 pathBytes p = pathAnswer (pathWire p)
+
+-- document 01's number of the refusal, 0 for none; and the six bytes
+unfoldable pub badEntry : RelayPath → ℕ
+badEntry p = frameNumber (pathWire p)
+
+unfoldable pub sixOf : RelayPath → List ℕ
+sixOf p = bytesOr 6 (pathWire p)

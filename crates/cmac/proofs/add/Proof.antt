@@ -2,8 +2,7 @@
 use Prim.Native.Nat.{_-_, _≤_}
 use lib.ListN.{take}
 use Rattle.base.specs.Lists.{added}
-use Rattle.base.proofs.Lists.{added-none}
-use Rattle.cmac.proofs.Turns.{added-more}
+use Rattle.base.proofs.Lists.{added-none, added-more}
 use borrow.Author.Needs.{needs}
 use native.Mathlib.Omega.{arith}
 use mathlib.Core.Path.{_≡_, sym}

@@ -8,7 +8,7 @@ use mathlib.Core.Bool.{Bool, true, false}
 use mathlib.Core.List.{List, [], _++_, append-assoc, append-nil}
 use lib.Dec.{leb}
 use lib.ListN.{length, take, drop, set, getD, length-append, length-drop, length-set}
-use lib.Seq.{paste, paste-zero, paste-suc, take-length, drop-length, take-append-seam, drop-append-add, drop-drop, length-take-le}
+use lib.Seq.{paste, paste-zero, paste-suc, take-length, drop-length, take-at, drop-append-add, drop-drop, length-take-le}
 use borrow.Author.Tests.{le-leb, lt-leb, leb-true}
 use Rattle.base.specs.Pick.{pick}
 use Rattle.base.specs.Answers.{bytes, outOf}
@@ -49,16 +49,69 @@ put-whole o v e =
     put-fits o 0 v a ∙ ap (λ (k : ℕ). v ++ drop k o) n ∙ rw (drop-length o) (append-nil v)
 
 -- two runs, one behind the other, are one
+laid-more : (o : List ℕ) (at : ℕ) (w v : List ℕ) → at ≤ length o → laid (laid o at w) (at + length w) v ≡ laid o at (w ++ v)
+laid-more o at w v h =
+    let l : length (take at o ++ w) ≡ at + length w = simp (length-append, length-take-le at o h) in
+    let e : length (take at o ++ w) + length v ≡ at + length w + length v = omega arith in
+    let g : at + length w + length v ≡ at + (length w + length v) = omega arith in
+    rw (take-at _ _ _ l, ← e, drop-append-add, drop-drop, length-append, g, append-assoc (take at o) w v)
+
+pub puts-join : (o : List ℕ) (at : ℕ) (w v : List ℕ) (n : ℕ) → n ≡ at + length w → at + length (w ++ v) ≤ length o → put (put o at w) n v ≡ put o at (w ++ v)
+puts-join o at w v n e h =
+    let l : length (w ++ v) ≡ length w + length v = length-append w v in
+    let a : at + length w ≤ length o = omega arith in
+    let b : at + length w + length v ≤ length (put o at w) = rw put-length (omega arith) in
+    let d : at ≤ length o = omega arith in
+    rw e (put-fits (put o at w) (at + length w) v b ∙ ap (λ (x : List ℕ). laid x (at + length w) v) (put-fits o at w a) ∙ laid-more o at w v d ∙ sym (put-fits o at (w ++ v) h))
+
 pub two-puts : (o w v : List ℕ) (at : ℕ) → length w ≡ at → length (w ++ v) ≤ length o → put (put o 0 w) at v ≡ put o 0 (w ++ v)
-two-puts o w v at e h =
-    let n : length (w ++ v) ≡ length w + length v = length-append w v in
-    let a : 0 + length w ≤ length o = omega arith in
-    let b : at + length v ≤ length (put o 0 w) = rw put-length (omega arith) in
-    let d : 0 + length (w ++ v) ≤ length o = omega arith in
-    put-fits (put o 0 w) at v b
-    ∙ ap (λ (x : List ℕ). laid x at v) (put-fits o 0 w a ∙ ap (λ (n : ℕ). w ++ drop n o) (zero-add (length w)))
-    ∙ (rw (← e, take-append-seam w (drop (length w) o), drop-append-add w (drop (length w) o) (length v), drop-drop (length v) (length w) o, zero-add, length-append w v))
-    ∙ sym (put-fits o 0 (w ++ v) d)
+two-puts o w v at e h = puts-join o 0 w v at (omega arith) (omega arith)
+
+-- w is being laid into o from a place on, one piece after another: all but the rest of it lies there
+pub record Joining (o : List ℕ) (at : ℕ) (w : List ℕ) (out : List ℕ) (n : ℕ) (rest : List ℕ) : Type 0 where
+  pub front : List ℕ
+  pub whole : w ≡ front ++ rest
+  pub long : length front ≡ n
+  pub fits : at + length w ≤ length o
+  pub sofar : out ≡ put o at front
+
+pub joining-none : (o : List ℕ) (at : ℕ) (w : List ℕ) → at + length w ≤ length o → Joining o at w o 0 w
+joining-none o at w h =
+    let a : at + 0 ≤ length o = omega arith in
+    record { front = []; whole = refl; long = refl; fits = h; sofar = sym (put-fits o at [] a ∙ sym (paste-zero o at [])) }
+
+module _ (o : List ℕ) (at : ℕ) (w out : List ℕ) (n : ℕ) (rest : List ℕ) (j : Joining o at w out n rest) where
+  pub joining-room : at + n + length rest ≤ length o
+  joining-room =
+      let a = ap length (j .whole) in
+      let b = length-append (j .front) rest in
+      let c = j .long in
+      let f = j .fits in
+      omega arith
+
+  pub joining-same : length out ≡ length o
+  joining-same = ap length (j .sofar) ∙ put-length o at (j .front)
+
+  pub joining-more : (v more out2 : List ℕ) (m : ℕ) → rest ≡ v ++ more → m ≡ length v → out2 ≡ put out (at + n) v → Joining o at w out2 (n + m) more
+  joining-more v more out2 m e l p =
+      let x : w ≡ j .front ++ v ++ more = j .whole ∙ ap (λ (y : List ℕ). j .front ++ y) e ∙ sym (append-assoc (j .front) v more) in
+      let a = ap length x in
+      let b = length-append (j .front ++ v) more in
+      let c = length-append (j .front) v in
+      let d = j .long in
+      let f = j .fits in
+      let k : at + n ≡ at + length (j .front) = omega arith in
+      let g : at + length (j .front ++ v) ≤ length o = omega arith in
+      record {
+        front = j .front ++ v;
+        whole = x;
+        long = omega arith;
+        fits = f;
+        sofar = p ∙ ap (λ (y : List ℕ). put y (at + n) v) (j .sofar) ∙ puts-join o at (j .front) v (at + n) k g;
+      }
+
+  pub joining-done : rest ≡ [] → out ≡ put o at w
+  joining-done e = j .sofar ∙ ap (put o at) (sym (j .whole ∙ ap (λ (y : List ℕ). j .front ++ y) e ∙ append-nil (j .front)))
 
 -- w is being laid into o from a place on: the first i of it lie there, and all else is as it was
 pub record Laying (o : List ℕ) (at : ℕ) (w : List ℕ) (out : List ℕ) (i : ℕ) : Type 0 where

@@ -1,0 +1,5 @@
+pub mod Steps
+pub mod Again
+pub mod Counted
+pub mod Laws
+pub mod Fixed

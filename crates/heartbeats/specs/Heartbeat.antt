@@ -1,0 +1,71 @@
+-- A heartbeat's value: a path of entries, six bytes each. Assumes nothing.
+use Prim.Native.Nat.{ℕ, zero, suc, _+_, _*_, _/_, _%_}
+use mathlib.Core.List.{List, [], _∷_, _++_}
+use lib.Dec.{ltb, leb, eqb}
+use lib.ListN.{length, getD, drop}
+use Rattle.base.specs.Pick.{pick}
+use Rattle.base.specs.Numbers.{itemLong, heartbeatLength, outputShort, outside, itemMost, pathMost}
+use Rattle.base.specs.Lists.{firstOf, joined}
+use Rattle.base.specs.Answers.{Answer, value, number, Frame, bytes, refused}
+use Rattle.fields.specs.Path.{pathOf, badEntry, sixOf}
+use Rattle.fields.specs.Meta.{unlessRefused}
+use Rattle.fields.specs.declared.path.RelayPath.{RelayPath}
+use Rattle.heartbeats.specs.declared.heartbeat.HeartbeatPayload.{HeartbeatPayload}
+use Rattle.heartbeats.specs.declared.heartbeat.HeartbeatRead.{HeartbeatRead}
+use Rattle.heartbeats.specs.declared.heartbeat.HeartbeatRead.the-variants.{Heartbeat, Refused as NoBeat}
+use Rattle.heartbeats.specs.declared.heartbeat.PathRead.{PathRead}
+use Rattle.heartbeats.specs.declared.heartbeat.PathRead.the-variants.{Entry, Refused as NoEntry}
+
+-- ---- reading
+
+-- the six bytes of v from place k on
+abbrev pub sixAt : List ℕ → ℕ → List ℕ
+sixAt v k = getD v k 0 ∷ getD v (k + 1) 0 ∷ getD v (k + 2) 0 ∷ getD v (k + 3) 0 ∷ getD v (k + 4) 0 ∷ getD v (k + 5) 0 ∷ []
+
+unfoldable pub entryAt : List ℕ → ℕ → RelayPath
+entryAt v i = pathOf (sixAt v (i * 6))
+
+-- the first n entries, and all of them
+unfoldable pub entries : List ℕ → ℕ → List RelayPath
+entries v zero = []
+entries v (suc n) = entries v n ++ (entryAt v n ∷ [])
+
+unfoldable pub pathsOf : List ℕ → List RelayPath
+pathsOf v = entries v (length v / 6)
+
+-- 19, 20, 21: too long, no whole number of entries, more of them than the list has places; 0 for none
+unfoldable pub beatRefusal : ℕ → ℕ → ℕ
+beatRefusal len places =
+    pick (ltb itemMost len) itemLong
+    (pick (ltb 0 (len % 6)) heartbeatLength
+    (pick (ltb places (len / 6)) outputShort 0))
+
+-- what is answered, and what the list holds after it
+unfoldable pub beatOf : List ℕ → ℕ → HeartbeatRead
+beatOf v places =
+    pick (eqb (beatRefusal (length v) places) 0)
+    (Heartbeat (record { entries = length v / 6 }))
+    (NoBeat (beatRefusal (length v) places))
+
+unfoldable pub pathAfter : List ℕ → List RelayPath → List RelayPath
+pathAfter v ys = pick (eqb (beatRefusal (length v) (length ys)) 0) (pathsOf v ++ drop (length v / 6) ys) ys
+
+-- entry i alone; 45 where its six bytes do not lie in v
+unfoldable pub entryRead : List ℕ → ℕ → PathRead
+entryRead v i = pick (leb (i * 6 + 6) (length v)) (Entry (entryAt v i)) (NoEntry outside)
+
+-- ---- writing
+
+-- the first bad entry's number, 19 for more than 42 entries, or the bytes of all entries, one behind the other
+unfoldable pub beatWire : List RelayPath → Frame
+beatWire ps = unlessRefused (firstOf badEntry ps) (pick (ltb pathMost (length ps)) (refused itemLong) (bytes (joined sixOf ps)))
+
+-- ---- document 01's number, or the value, of each answer
+
+abbrev pub beatSays : HeartbeatRead → Answer HeartbeatPayload
+beatSays (Heartbeat h) = value h
+beatSays (NoBeat n) = number n
+
+abbrev pub pathSays : PathRead → Answer RelayPath
+pathSays (Entry p) = value p
+pathSays (NoEntry n) = number n

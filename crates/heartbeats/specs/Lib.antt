@@ -1,0 +1,2 @@
+pub mod Heartbeat
+pub mod Steps

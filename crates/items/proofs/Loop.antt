@@ -1,0 +1,137 @@
+-- The loop of `count_items`, on plain values: what has been counted, with what the pieces from `at` on still hold, is what all hold.
+-- Assumes nothing.
+use Prim.Native.Nat.{ℕ, _+_, _-_, _≤_, _<_}
+use native.Mathlib.Omega.{arith}
+use mathlib.Core.Bool.{Bool, true, false}
+use mathlib.Core.Path.{_≡_, refl, sym, ap, ap₂, _∙_}
+use mathlib.Core.List.{List, [], _∷_}
+use lib.Dec.{eqb}
+use lib.ListN.{length, getD, take, drop, length-drop}
+use lib.Seq.{length-take-le}
+use borrow.Author.Tests.{ne-eqb}
+use Rattle.base.specs.Pick.{pick}
+use Rattle.wire.specs.declared.run.Run.{Run}
+use Rattle.items.specs.declared.item.Item.{Item}
+use Rattle.items.specs.declared.item.ItemRead.{ItemRead}
+use Rattle.items.specs.declared.item.ItemRead.the-variants.{Kept, Skipped, Cut, End}
+use Rattle.items.specs.declared.count.Opening.{Opening}
+use Rattle.items.specs.Items.{pieces, itemAt, openingOf, keptItems, skippedItems, keptBytes, skippedBytes, cutBytes, isClean}
+use Rattle.items.proofs.Laws.{Turn, turn}
+
+pub record Sofar (ev : Bool) (s : List ℕ) (at k sk kb sb : ℕ) : Type 0 where
+  pub within : at ≤ length s
+  pub bytes : kb + sb ≡ at
+  pub few : k + sk ≤ at
+  pub kept : k + keptItems (pieces ev 0 (drop at s)) ≡ keptItems (pieces ev 0 s)
+  pub skipped : sk + skippedItems (pieces ev 0 (drop at s)) ≡ skippedItems (pieces ev 0 s)
+  pub kept-bytes : kb + keptBytes (pieces ev 0 (drop at s)) ≡ keptBytes (pieces ev 0 s)
+  pub skipped-bytes : sb + skippedBytes (pieces ev 0 (drop at s)) ≡ skippedBytes (pieces ev 0 s)
+  pub cut-bytes : cutBytes (pieces ev 0 (drop at s)) ≡ cutBytes (pieces ev 0 s)
+  pub clean : pick (eqb sk 0) (isClean (pieces ev 0 (drop at s))) false ≡ isClean (pieces ev 0 s)
+
+pub none-yet : (ev : Bool) (s : List ℕ) → Sofar ev s 0 0 0 0 0
+none-yet ev s =
+    record {
+      within = omega arith;
+      bytes = omega arith;
+      few = omega arith;
+      kept = omega arith;
+      skipped = omega arith;
+      kept-bytes = omega arith;
+      skipped-bytes = omega arith;
+      cut-bytes = refl;
+      clean = refl;
+    }
+
+never : (b : Bool) → pick b false false ≡ false
+never true = refl
+never false = refl
+
+as-it-is : (b : Bool) → pick b true false ≡ b
+as-it-is true = refl
+as-it-is false = refl
+
+module _ (ev : Bool) (s : List ℕ) (at k sk kb sb : ℕ) (f : Sofar ev s at k sk kb sb) where
+  pub one-kept : (i : Item) (nx : ℕ) → itemAt ev s at ≡ Kept i nx → Sofar ev s nx (k + 1) sk (kb + (nx - at)) sb
+  one-kept i nx e =
+      let u = turn ev s at _ e in
+      let h : getD s (at + 1) 0 ≤ length (drop (at + 2) s) = simp length-drop (omega arith) in
+      let l = length-take-le (getD s (at + 1) 0) (drop (at + 2) s) h in
+      let a = ap keptItems (u .3) in
+      let b = ap skippedItems (u .3) in
+      let c = ap keptBytes (u .3) in
+      let d = ap skippedBytes (u .3) in
+      let g = ap cutBytes (u .3) in
+      record {
+        within = omega arith;
+        bytes = omega arith;
+        few = omega arith;
+        kept = omega arith;
+        skipped = omega arith;
+        kept-bytes = omega arith;
+        skipped-bytes = omega arith;
+        cut-bytes = omega arith;
+        clean = ap (λ (x : Bool). pick (eqb sk 0) x false) (sym (ap isClean (u .3))) ∙ f .clean;
+      }
+
+  pub one-skipped : (i : Item) (nx : ℕ) → itemAt ev s at ≡ Skipped i nx → Sofar ev s nx k (sk + 1) kb (sb + (nx - at))
+  one-skipped i nx e =
+      let u = turn ev s at _ e in
+      let h : getD s (at + 1) 0 ≤ length (drop (at + 2) s) = simp length-drop (omega arith) in
+      let l = length-take-le (getD s (at + 1) 0) (drop (at + 2) s) h in
+      let a = ap keptItems (u .3) in
+      let b = ap skippedItems (u .3) in
+      let c = ap keptBytes (u .3) in
+      let d = ap skippedBytes (u .3) in
+      let g = ap cutBytes (u .3) in
+      record {
+        within = omega arith;
+        bytes = omega arith;
+        few = omega arith;
+        kept = omega arith;
+        skipped = omega arith;
+        kept-bytes = omega arith;
+        skipped-bytes = omega arith;
+        cut-bytes = omega arith;
+        clean =
+            ap (λ (x : Bool). pick x (isClean (pieces ev 0 (drop nx s))) false) (ne-eqb (sk + 1) 0 (λ q. omega arith))
+            ∙ sym (never (eqb sk 0)) ∙ ap (λ (x : Bool). pick (eqb sk 0) x false) (sym (ap isClean (u .3))) ∙ f .clean;
+      }
+
+  pub at-cut : (r : Run) → itemAt ev s at ≡ Cut r
+      → _≡_ {A = Opening} (record { kept = k; skipped = sk; «kept_bytes» = kb; «skipped_bytes» = sb; «cut_bytes» = r .len; clean = false }) (openingOf ev s)
+  unfolding openingOf
+  at-cut r e =
+      let u = turn ev s at _ e in
+      let a = ap keptItems (u .2) in
+      let b = ap skippedItems (u .2) in
+      let c = ap keptBytes (u .2) in
+      let d = ap skippedBytes (u .2) in
+      let g = ap cutBytes (u .2) in
+      let l = length-drop at s in
+      let n : r .len ≡ length s - at = ap (λ (x : Run). x .len) (u .0) in
+      let p : k ≡ keptItems (pieces ev 0 s) = omega arith in
+      let q : sk ≡ skippedItems (pieces ev 0 s) = omega arith in
+      let t : kb ≡ keptBytes (pieces ev 0 s) = omega arith in
+      let v : sb ≡ skippedBytes (pieces ev 0 s) = omega arith in
+      let w : r .len ≡ cutBytes (pieces ev 0 s) = omega arith in
+      let z : false ≡ isClean (pieces ev 0 s) = sym (never (eqb sk 0)) ∙ ap (λ (x : Bool). pick (eqb sk 0) x false) (sym (ap isClean (u .2))) ∙ f .clean in
+      cc
+
+  pub at-end : itemAt ev s at ≡ End
+      → _≡_ {A = Opening} (record { kept = k; skipped = sk; «kept_bytes» = kb; «skipped_bytes» = sb; «cut_bytes» = 0; clean = eqb sk 0 }) (openingOf ev s)
+  unfolding openingOf
+  at-end e =
+      let u = turn ev s at _ e in
+      let a = ap keptItems (u .1) in
+      let b = ap skippedItems (u .1) in
+      let c = ap keptBytes (u .1) in
+      let d = ap skippedBytes (u .1) in
+      let g = ap cutBytes (u .1) in
+      let p : k ≡ keptItems (pieces ev 0 s) = omega arith in
+      let q : sk ≡ skippedItems (pieces ev 0 s) = omega arith in
+      let t : kb ≡ keptBytes (pieces ev 0 s) = omega arith in
+      let v : sb ≡ skippedBytes (pieces ev 0 s) = omega arith in
+      let w : 0 ≡ cutBytes (pieces ev 0 s) = omega arith in
+      let z : eqb sk 0 ≡ isClean (pieces ev 0 s) = sym (as-it-is (eqb sk 0)) ∙ ap (λ (x : Bool). pick (eqb sk 0) x false) (sym (ap isClean (u .1))) ∙ f .clean in
+      cc

@@ -1,0 +1,146 @@
+-- The items of a payload: tag, length, value; how the reader goes from one to the next, and what an opening reports of them. `ev` says
+-- whether the payload is an event's. Assumes nothing.
+use Prim.Native.Nat.{ℕ, zero, suc, _+_, _-_, _%_}
+use mathlib.Core.Bool.{Bool, true, false, not}
+use mathlib.Core.List.{List, [], _∷_}
+use lib.Dec.{ltb, leb, eqb}
+use lib.ListN.{length, getD, take}
+use Rattle.base.specs.Pick.{pick}
+use Rattle.base.specs.Numbers.{frameLong, payloadMost}
+use Rattle.base.specs.Answers.{Answer, value, number}
+use Rattle.wire.specs.declared.run.Run.{Run}
+use Rattle.items.specs.declared.item.ItemKind.{ItemKind}
+use Rattle.items.specs.declared.item.ItemKind.the-variants.{Encrypted, Heartbeat, Proprietary}
+use Rattle.items.specs.declared.item.Item.{Item}
+use Rattle.items.specs.declared.item.ItemRead.{ItemRead}
+use Rattle.items.specs.declared.item.ItemRead.the-variants.{Kept, Skipped, Cut, End, Refused}
+use Rattle.items.specs.declared.count.Opening.{Opening}
+use Rattle.items.specs.declared.count.OpeningRead.{OpeningRead}
+use Rattle.items.specs.declared.count.OpeningRead.the-variants.{Opening as Counted, Refused as NoCount}
+
+-- tag 0 of an event is a heartbeat, and of a command an ordinary item
+abbrev pub isBeat : Bool → ℕ → Bool
+isBeat ev t = pick ev (eqb t 0) false
+
+-- a heartbeat that is no whole number of entries
+unfoldable pub badBeat : Bool → ℕ → ℕ → Bool
+badBeat ev t n = pick ev (pick (eqb t 0) (not (eqb (n % 6) 0)) false) false
+
+-- ---- a payload as its pieces
+
+-- each kept item's tag and value, each skipped heartbeat's value, and the tail that is cut
+pub data Piece : Type 0 where
+  kept : ℕ → List ℕ → Piece
+  skipped : List ℕ → Piece
+  cut : List ℕ → Piece
+
+-- `pieces ev k s`: those of s after its first k bytes. At 0 a piece starts, and its length is what is passed over next, so that the
+-- recursion goes byte by byte.
+unfoldable pub pieces : Bool → ℕ → List ℕ → List Piece
+pieces ev (suc k) [] = []
+pieces ev (suc k) (x ∷ s) = pieces ev k s
+pieces ev zero [] = []
+pieces ev zero (t ∷ []) = cut (t ∷ []) ∷ []
+pieces ev zero (t ∷ n ∷ s) =
+    pick (leb n (length s))
+    (pick (badBeat ev t n) (skipped (take n s)) (kept t (take n s)) ∷ pieces ev n s)
+    (cut (t ∷ n ∷ s) ∷ [])
+
+-- ---- what an opening reports, each over the pieces
+
+abbrev pub keptItems : List Piece → ℕ
+keptItems [] = 0
+keptItems (kept t v ∷ ps) = 1 + keptItems ps
+keptItems (skipped v ∷ ps) = keptItems ps
+keptItems (cut v ∷ ps) = keptItems ps
+
+abbrev pub skippedItems : List Piece → ℕ
+skippedItems [] = 0
+skippedItems (kept t v ∷ ps) = skippedItems ps
+skippedItems (skipped v ∷ ps) = 1 + skippedItems ps
+skippedItems (cut v ∷ ps) = skippedItems ps
+
+abbrev pub keptBytes : List Piece → ℕ
+keptBytes [] = 0
+keptBytes (kept t v ∷ ps) = 2 + length v + keptBytes ps
+keptBytes (skipped v ∷ ps) = keptBytes ps
+keptBytes (cut v ∷ ps) = keptBytes ps
+
+abbrev pub skippedBytes : List Piece → ℕ
+skippedBytes [] = 0
+skippedBytes (kept t v ∷ ps) = skippedBytes ps
+skippedBytes (skipped v ∷ ps) = 2 + length v + skippedBytes ps
+skippedBytes (cut v ∷ ps) = skippedBytes ps
+
+abbrev pub cutBytes : List Piece → ℕ
+cutBytes [] = 0
+cutBytes (kept t v ∷ ps) = cutBytes ps
+cutBytes (skipped v ∷ ps) = cutBytes ps
+cutBytes (cut v ∷ ps) = length v + cutBytes ps
+
+-- nothing was skipped or cut
+abbrev pub isClean : List Piece → Bool
+isClean [] = true
+isClean (kept t v ∷ ps) = isClean ps
+isClean (skipped v ∷ ps) = false
+isClean (cut v ∷ ps) = false
+
+unfoldable pub openingOf : Bool → List ℕ → Opening
+openingOf ev s =
+    record {
+      kept = keptItems (pieces ev 0 s);
+      skipped = skippedItems (pieces ev 0 s);
+      «kept_bytes» = keptBytes (pieces ev 0 s);
+      «skipped_bytes» = skippedBytes (pieces ev 0 s);
+      «cut_bytes» = cutBytes (pieces ev 0 s);
+      clean = isClean (pieces ev 0 s);
+    }
+
+abbrev pub nothing : Opening
+nothing = record { kept = 0; skipped = 0; «kept_bytes» = 0; «skipped_bytes» = 0; «cut_bytes» = 0; clean = true }
+
+-- of a bare payload: 5 where it is over 8,179 bytes
+unfoldable pub countsOf : Bool → List ℕ → OpeningRead
+countsOf ev s = pick (ltb payloadMost (length s)) (NoCount frameLong) (Counted (openingOf ev s))
+
+abbrev pub countsSay : OpeningRead → Answer Opening
+countsSay (Counted o) = value o
+countsSay (NoCount n) = number n
+
+-- ---- one item at a place
+
+unfoldable pub kindOf : Bool → ℕ → ItemKind
+kindOf ev t = pick ev (pick (eqb t 0) Heartbeat Proprietary) Proprietary
+
+abbrev pub itemOf : Bool → List ℕ → ℕ → Item
+itemOf ev s at = record { kind = kindOf ev (getD s at 0); tag = getD s at 0; value = record { start = at + 2; len = getD s (at + 1) 0 } }
+
+-- all from a place on
+abbrev pub tailAt : List ℕ → ℕ → Run
+tailAt s at = record { start = at; len = length s - at }
+
+unfoldable pub itemAt : Bool → List ℕ → ℕ → ItemRead
+itemAt ev s at =
+    pick (leb (length s) at) End
+    (pick (ltb (length s - at) 2) (Cut (tailAt s at))
+    (pick (ltb (length s - at - 2) (getD s (at + 1) 0)) (Cut (tailAt s at))
+    (pick (badBeat ev (getD s at 0) (getD s (at + 1) 0))
+    (Skipped (itemOf ev s at) (at + 2 + getD s (at + 1) 0))
+    (Kept (itemOf ev s at) (at + 2 + getD s (at + 1) 0)))))
+
+-- of a bare payload: 5 where it is over 8,179 bytes
+unfoldable pub decodeOf : Bool → List ℕ → ℕ → ItemRead
+decodeOf ev s at = pick (ltb payloadMost (length s)) (Refused frameLong) (itemAt ev s at)
+
+-- ---- a sealed run as one item, and an item's type
+
+abbrev pub sealedItem : Run → Item
+sealedItem r = record { kind = Encrypted; tag = 0; value = r }
+
+abbrev pub tagUnlessSealed : ItemKind → ℕ → ℕ
+tagUnlessSealed Encrypted t = 0
+tagUnlessSealed Heartbeat t = t
+tagUnlessSealed Proprietary t = t
+
+abbrev pub typeOf : Item → ℕ
+typeOf i = tagUnlessSealed (i .kind) (i .tag)

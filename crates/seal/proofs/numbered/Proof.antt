@@ -1,0 +1,13 @@
+-- `seal::numbered` meets its contract. Assumes nothing.
+use Rattle.wire.specs.Number.{beBytes}
+use Rattle.seal.specs.Stream.{numbered}
+use borrow.Author.Needs.{needs}
+use Rattle.seal.proofs.numbered.Statement.{statement}
+use Rattle.seal.proofs.numbered.Tie as tie
+
+returns : tie.Need-returns
+unfolding numbered beBytes
+returns c = rw (c .before .before .kind-byte .ensures, c .before .be32-bytes .ensures, c .be32-bytes2 .ensures)
+
+pub numbered-spec : {M : Type 1} → statement M
+numbered-spec = tie.close (tie.spec (λ c κs. search needs) (λ c κs. search needs) (λ c κs. search needs) (λ c. search needs) (λ c. search needs) (λ c. search needs) (λ c. search needs) (λ c. search needs) (λ c. search needs) (λ c. search needs) (λ c. search needs) returns)
