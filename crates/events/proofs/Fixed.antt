@@ -3,43 +3,73 @@ use mathlib.Core.Path.{refl, sym, ap, _∙_}
 use mathlib.Core.List.{List}
 use Prim.Native.Nat.{ℕ}
 use Rattle.base.proofs.Outcome.{Fixed}
-use Rattle.events.proofs.stamped.EventPayload.read_at.Kinds as event-read-at-kinds
-use Rattle.events.proofs.stamped.EventPayload.read_at.Reads as event-read-at-reads
-use Rattle.events.proofs.stamped.EventPayload.from_slice.Kinds as event-from-slice-kinds
-use Rattle.events.proofs.stamped.EventPayload.from_slice.Reads as event-from-slice-reads
-use Rattle.events.proofs.stamped.EventPayload.write.Kinds as event-write-kinds
-use Rattle.events.proofs.stamped.EventPayload.write.Reads as event-write-reads
-use Rattle.events.proofs.stamped.EventPayload.write_in.Kinds as event-write-in-kinds
-use Rattle.events.proofs.stamped.EventPayload.write_in.Reads as event-write-in-reads
-use Rattle.events.proofs.stamped.CommandPayload.read_at.Kinds as command-read-at-kinds
-use Rattle.events.proofs.stamped.CommandPayload.read_at.Reads as command-read-at-reads
-use Rattle.events.proofs.stamped.CommandPayload.from_slice.Kinds as command-from-slice-kinds
-use Rattle.events.proofs.stamped.CommandPayload.from_slice.Reads as command-from-slice-reads
-use Rattle.events.proofs.stamped.CommandPayload.write.Kinds as command-write-kinds
-use Rattle.events.proofs.stamped.CommandPayload.write.Reads as command-write-reads
-use Rattle.events.proofs.stamped.CommandPayload.write_in.Kinds as command-write-in-kinds
-use Rattle.events.proofs.stamped.CommandPayload.write_in.Reads as command-write-in-reads
+use Rattle.events.proofs.stamped.EventPayload.read_at.Kinds as event-payload-read-at-kinds
+use Rattle.events.proofs.stamped.EventPayload.read_at.Reads as event-payload-read-at-reads
+use Rattle.events.proofs.stamped.EventPayload.from_slice.Kinds as event-payload-from-slice-kinds
+use Rattle.events.proofs.stamped.EventPayload.from_slice.Reads as event-payload-from-slice-reads
+use Rattle.events.proofs.stamped.EventPayload.write.Kinds as event-payload-write-kinds
+use Rattle.events.proofs.stamped.EventPayload.write.Reads as event-payload-write-reads
+use Rattle.events.proofs.stamped.EventPayload.write_in.Kinds as event-payload-write-in-kinds
+use Rattle.events.proofs.stamped.EventPayload.write_in.Reads as event-payload-write-in-reads
+use Rattle.events.proofs.stamped.EventPayload.encrypt.Kinds as event-payload-encrypt-kinds
+use Rattle.events.proofs.stamped.EventPayload.encrypt.Reads as event-payload-encrypt-reads
+use Rattle.events.proofs.stamped.EventPayload.decrypt.Kinds as event-payload-decrypt-kinds
+use Rattle.events.proofs.stamped.EventPayload.decrypt.Reads as event-payload-decrypt-reads
+use Rattle.events.proofs.stamped.EventPayload.decode.Kinds as event-payload-decode-kinds
+use Rattle.events.proofs.stamped.EventPayload.decode.Reads as event-payload-decode-reads
+use Rattle.events.proofs.stamped.CommandPayload.read_at.Kinds as command-payload-read-at-kinds
+use Rattle.events.proofs.stamped.CommandPayload.read_at.Reads as command-payload-read-at-reads
+use Rattle.events.proofs.stamped.CommandPayload.from_slice.Kinds as command-payload-from-slice-kinds
+use Rattle.events.proofs.stamped.CommandPayload.from_slice.Reads as command-payload-from-slice-reads
+use Rattle.events.proofs.stamped.CommandPayload.write.Kinds as command-payload-write-kinds
+use Rattle.events.proofs.stamped.CommandPayload.write.Reads as command-payload-write-reads
+use Rattle.events.proofs.stamped.CommandPayload.write_in.Kinds as command-payload-write-in-kinds
+use Rattle.events.proofs.stamped.CommandPayload.write_in.Reads as command-payload-write-in-reads
+use Rattle.events.proofs.stamped.CommandPayload.encrypt.Kinds as command-payload-encrypt-kinds
+use Rattle.events.proofs.stamped.CommandPayload.encrypt.Reads as command-payload-encrypt-reads
+use Rattle.events.proofs.stamped.CommandPayload.decrypt.Kinds as command-payload-decrypt-kinds
+use Rattle.events.proofs.stamped.CommandPayload.decrypt.Reads as command-payload-decrypt-reads
+use Rattle.events.proofs.stamped.CommandPayload.decode.Kinds as command-payload-decode-kinds
+use Rattle.events.proofs.stamped.CommandPayload.decode.Reads as command-payload-decode-reads
 
-event-read-at : Fixed 1 event-read-at-kinds.ps event-read-at-kinds.r event-read-at-reads.Post
-event-read-at κs a x y v w p q = (p ∙ sym q, refl)
+event-payload-read-at : Fixed 1 event-payload-read-at-kinds.ps event-payload-read-at-kinds.r event-payload-read-at-reads.Post
+event-payload-read-at κs a x y v w p q = (p ∙ sym q, refl)
 
-event-from-slice : Fixed 1 event-from-slice-kinds.ps event-from-slice-kinds.r event-from-slice-reads.Post
-event-from-slice κs a x y v w p q = (p ∙ sym q, refl)
+event-payload-from-slice : Fixed 1 event-payload-from-slice-kinds.ps event-payload-from-slice-kinds.r event-payload-from-slice-reads.Post
+event-payload-from-slice κs a x y v w p q = (p ∙ sym q, refl)
 
-event-write : Fixed 2 event-write-kinds.ps event-write-kinds.r event-write-reads.Post
-event-write κs a x y v w p q = (p .0 ∙ sym (q .0), ap (λ (l : List ℕ). (tt, (tt, (l, tt)))) (p .1 ∙ sym (q .1)))
+event-payload-write : Fixed 7 event-payload-write-kinds.ps event-payload-write-kinds.r event-payload-write-reads.Post
+event-payload-write κs a x y v w p q = (p .0 ∙ sym (q .0), ap (λ (l : List ℕ). (tt, (tt, (tt, (tt, (tt, (tt, (tt, (tt, (l, tt)))))))))) (p .1 ∙ sym (q .1)))
 
-event-write-in : Fixed 2 event-write-in-kinds.ps event-write-in-kinds.r event-write-in-reads.Post
-event-write-in κs a x y v w p q = (p .0 ∙ sym (q .0), ap (λ (l : List ℕ). (tt, (tt, (tt, (tt, (tt, (l, tt))))))) (p .1 ∙ sym (q .1)))
+event-payload-write-in : Fixed 7 event-payload-write-in-kinds.ps event-payload-write-in-kinds.r event-payload-write-in-reads.Post
+event-payload-write-in κs a x y v w p q = (p .0 ∙ sym (q .0), ap (λ (l : List ℕ). (tt, (tt, (tt, (tt, (tt, (tt, (tt, (tt, (tt, (tt, (tt, (l, tt))))))))))))) (p .1 ∙ sym (q .1)))
 
-command-read-at : Fixed 1 command-read-at-kinds.ps command-read-at-kinds.r command-read-at-reads.Post
-command-read-at κs a x y v w p q = (p ∙ sym q, refl)
+event-payload-encrypt : Fixed 7 event-payload-encrypt-kinds.ps event-payload-encrypt-kinds.r event-payload-encrypt-reads.Post
+event-payload-encrypt κs a x y v w p q = (p .0 ∙ sym (q .0), ap (λ (l : List ℕ). (tt, (tt, (tt, (tt, (tt, (tt, (tt, (tt, (tt, (l, tt))))))))))) (p .1 ∙ sym (q .1)))
 
-command-from-slice : Fixed 1 command-from-slice-kinds.ps command-from-slice-kinds.r command-from-slice-reads.Post
-command-from-slice κs a x y v w p q = (p ∙ sym q, refl)
+event-payload-decrypt : Fixed 2 event-payload-decrypt-kinds.ps event-payload-decrypt-kinds.r event-payload-decrypt-reads.Post
+event-payload-decrypt κs a x y v w p q = (p .0 ∙ sym (q .0), ap (λ (l : List ℕ). (tt, (tt, (tt, (l, tt))))) (p .1 ∙ sym (q .1)))
 
-command-write : Fixed 2 command-write-kinds.ps command-write-kinds.r command-write-reads.Post
-command-write κs a x y v w p q = (p .0 ∙ sym (q .0), ap (λ (l : List ℕ). (tt, (tt, (l, tt)))) (p .1 ∙ sym (q .1)))
+event-payload-decode : Fixed 1 event-payload-decode-kinds.ps event-payload-decode-kinds.r event-payload-decode-reads.Post
+event-payload-decode κs a x y v w p q = (p ∙ sym q, refl)
 
-command-write-in : Fixed 2 command-write-in-kinds.ps command-write-in-kinds.r command-write-in-reads.Post
-command-write-in κs a x y v w p q = (p .0 ∙ sym (q .0), ap (λ (l : List ℕ). (tt, (tt, (tt, (tt, (tt, (l, tt))))))) (p .1 ∙ sym (q .1)))
+command-payload-read-at : Fixed 1 command-payload-read-at-kinds.ps command-payload-read-at-kinds.r command-payload-read-at-reads.Post
+command-payload-read-at κs a x y v w p q = (p ∙ sym q, refl)
+
+command-payload-from-slice : Fixed 1 command-payload-from-slice-kinds.ps command-payload-from-slice-kinds.r command-payload-from-slice-reads.Post
+command-payload-from-slice κs a x y v w p q = (p ∙ sym q, refl)
+
+command-payload-write : Fixed 7 command-payload-write-kinds.ps command-payload-write-kinds.r command-payload-write-reads.Post
+command-payload-write κs a x y v w p q = (p .0 ∙ sym (q .0), ap (λ (l : List ℕ). (tt, (tt, (tt, (tt, (tt, (tt, (tt, (tt, (l, tt)))))))))) (p .1 ∙ sym (q .1)))
+
+command-payload-write-in : Fixed 7 command-payload-write-in-kinds.ps command-payload-write-in-kinds.r command-payload-write-in-reads.Post
+command-payload-write-in κs a x y v w p q = (p .0 ∙ sym (q .0), ap (λ (l : List ℕ). (tt, (tt, (tt, (tt, (tt, (tt, (tt, (tt, (tt, (tt, (tt, (l, tt))))))))))))) (p .1 ∙ sym (q .1)))
+
+command-payload-encrypt : Fixed 7 command-payload-encrypt-kinds.ps command-payload-encrypt-kinds.r command-payload-encrypt-reads.Post
+command-payload-encrypt κs a x y v w p q = (p .0 ∙ sym (q .0), ap (λ (l : List ℕ). (tt, (tt, (tt, (tt, (tt, (tt, (tt, (tt, (tt, (l, tt))))))))))) (p .1 ∙ sym (q .1)))
+
+command-payload-decrypt : Fixed 2 command-payload-decrypt-kinds.ps command-payload-decrypt-kinds.r command-payload-decrypt-reads.Post
+command-payload-decrypt κs a x y v w p q = (p .0 ∙ sym (q .0), ap (λ (l : List ℕ). (tt, (tt, (tt, (l, tt))))) (p .1 ∙ sym (q .1)))
+
+command-payload-decode : Fixed 1 command-payload-decode-kinds.ps command-payload-decode-kinds.r command-payload-decode-reads.Post
+command-payload-decode κs a x y v w p q = (p ∙ sym q, refl)

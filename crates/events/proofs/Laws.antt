@@ -2,20 +2,23 @@
 -- same bytes. Assumes nothing.
 use Prim.Native.Nat.{ℕ, _+_, _-_, _≤_, _<_}
 use native.Mathlib.Omega.{arith}
+use mathlib.Core.Bool.{Bool}
 use mathlib.Core.Path.{_≡_, refl, sym, ap, ap₂, _∙_}
 use mathlib.Core.List.{List, [], _∷_, _++_}
 use lib.Dec.{ltb}
 use lib.ListN.{length, getD}
 use borrow.Author.Tests.{le-ltb, ltb-false}
 use Rattle.base.specs.Lists.{Bytes, from}
+use Rattle.base.specs.Answers.{Frame, bytes, refused}
 use Rattle.wire.specs.Number.{beBytes}
 use Rattle.wire.proofs.Laws.Number.{be-length, bytes-of}
 use Rattle.fields.proofs.Laws.Bytes.{none, _▸_, small}
 use Rattle.payloads.specs.Read.{fourAt}
-use Rattle.payloads.proofs.Laws.{with-four, four-is, spelt, third}
-use Rattle.events.specs.Read.{bodyOf, stampedAt, asEvent, eventAt, asCommand, commandAt}
-use Rattle.events.specs.Write.{stamp}
-use Rattle.events.specs.declared.stamped.Body.{Body}
+use Rattle.payloads.proofs.Laws.{unless-bytes, with-four, four-is, spelt, third}
+use Rattle.bodies.specs.Body.{Lent, bodyOf, bodyRefusal, bodyBytes, bodyWire}
+use Rattle.events.specs.Read.{stampedAt, asEvent, eventAt, asCommand, commandAt}
+use Rattle.events.specs.Write.{stamp, headedBy, stampedWire}
+use Rattle.bodies.specs.declared.body.Body.{Body}
 use Rattle.events.specs.declared.stamped.EventPayload.{EventPayload}
 use Rattle.events.specs.declared.stamped.EventRead.the-variants.{Payload as AnEvent}
 use Rattle.events.specs.declared.stamped.CommandPayload.{CommandPayload}
@@ -51,6 +54,21 @@ module _ (t r : ℕ) (v : List ℕ) (at : ℕ) (ht : t < 4294967296) (hr : r < 4
   pub command-read-back : commandAt at (stamp t r ++ v) ≡ ACommand (record { timestamp = t; «relay_id» = r; commands = bodyOf (8 + at) (length v) })
   unfolding commandAt
   command-read-back = ap asCommand stamped-read-back
+
+-- ---- what a body that is written is made of
+
+headed-bytes : (h : List ℕ) (f : Frame) (w : List ℕ) → headedBy h f ≡ bytes w → (v : List ℕ) × (f ≡ bytes v) × (w ≡ h ++ v)
+headed-bytes h (bytes v) w e = (v, refl, cc)
+headed-bytes h (refused n) w e = let z : _≡_ {A = ℕ} 0 1 = cc in absurd (omega arith)
+
+-- timestamp and relay id, and behind them what is written of the payload
+pub stamped-bytes : (ev : Bool) (l : Lent) (p : Stamped) (w : List ℕ) → stampedWire ev l p ≡ bytes w → w ≡ stamp (p .timestamp) (p .«relay_id») ++ bodyBytes ev l (p .body)
+unfolding stampedWire bodyWire
+stamped-bytes ev l p w e =
+    let g = headed-bytes (stamp (p .timestamp) (p .«relay_id»)) _ w e in
+    let u = unless-bytes (bodyRefusal ev l (p .body)) (bytes (bodyBytes ev l (p .body))) (g .0) (g .1) in
+    let y : bodyBytes ev l (p .body) ≡ g .0 = cc (u .1) in
+    g .2 ∙ ap (λ (v : List ℕ). stamp (p .timestamp) (p .«relay_id») ++ v) (sym y)
 
 -- ---- writing what was read
 

@@ -1,14 +1,13 @@
 -- Events and commands read. `at` is where the body starts in its frame, so that a run is a place in the frame. Assumes nothing.
 use Prim.Native.Nat.{ℕ, _+_, _-_}
 use mathlib.Core.List.{List}
-use lib.Dec.{ltb, eqb}
+use lib.Dec.{ltb}
 use lib.ListN.{length}
 use Rattle.base.specs.Pick.{pick}
 use Rattle.base.specs.Numbers.{frameLong, bodyShort}
 use Rattle.base.specs.Answers.{Answer, value, number}
 use Rattle.payloads.specs.Read.{fourAt}
-use Rattle.events.specs.declared.stamped.Body.{Body}
-use Rattle.events.specs.declared.stamped.Body.the-variants.{Empty, Sealed}
+use Rattle.bodies.specs.Body.{bodyOf}
 use Rattle.events.specs.declared.stamped.EventPayload.{EventPayload}
 use Rattle.events.specs.declared.stamped.EventRead.{EventRead}
 use Rattle.events.specs.declared.stamped.EventRead.the-variants.{Payload as AnEvent, Refused as NoEvent}
@@ -18,10 +17,6 @@ use Rattle.events.specs.declared.stamped.CommandRead.the-variants.{Paylo
 use Rattle.events.specs.declared.stamped.Stamped.{Stamped}
 use Rattle.events.specs.declared.stamped.StampedRead.{StampedRead}
 use Rattle.events.specs.declared.stamped.StampedRead.the-variants.{Stamped as AStamped, Refused as NoStamped}
-
--- no bytes after the relay id means no items
-abbrev pub bodyOf : ℕ → ℕ → Body
-bodyOf start n = pick (eqb n 0) Empty (Sealed (record { start = start; len = n }))
 
 unfoldable pub stampedAt : ℕ → List ℕ → StampedRead
 stampedAt at b =

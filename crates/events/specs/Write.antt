@@ -1,12 +1,11 @@
--- Events and commands written: the bytes of the body, or the first refusal. Assumes nothing.
+-- Events and commands written: the bytes of the body, or the first refusal in the order 45, the first bad path entry, 19, 20. Assumes
+-- nothing.
 use Prim.Native.Nat.{ℕ}
+use mathlib.Core.Bool.{Bool, true, false}
 use mathlib.Core.List.{List, _++_}
-use Rattle.base.specs.Answers.{Frame, bytes}
+use Rattle.base.specs.Answers.{Frame, bytes, refused}
 use Rattle.wire.specs.Number.{beBytes}
-use Rattle.wire.specs.declared.run.Run.{Run}
-use Rattle.payloads.specs.Write.{withRun}
-use Rattle.events.specs.declared.stamped.Body.{Body}
-use Rattle.events.specs.declared.stamped.Body.the-variants.{Empty, Sealed}
+use Rattle.bodies.specs.Body.{Lent, bodyWire}
 use Rattle.events.specs.declared.stamped.EventPayload.{EventPayload}
 use Rattle.events.specs.declared.stamped.CommandPayload.{CommandPayload}
 use Rattle.events.specs.declared.stamped.Stamped.{Stamped}
@@ -15,12 +14,13 @@ use Rattle.events.specs.declared.stamped.Stamped.{Stamped}
 unfoldable pub stamp : ℕ → ℕ → List ℕ
 stamp time relay = beBytes 4 time ++ beBytes 4 relay
 
-abbrev pub runOf : Body → Run
-runOf Empty = record { start = 0; len = 0 }
-runOf (Sealed r) = r
+-- what is written, with a head before it
+abbrev pub headedBy : List ℕ → Frame → Frame
+headedBy h (refused n) = refused n
+headedBy h (bytes v) = bytes (h ++ v)
 
-unfoldable pub stampedWire : List ℕ → Stamped → Frame
-stampedWire s p = withRun s (runOf (p .body)) (bytes (stamp (p .timestamp) (p .«relay_id»)))
+unfoldable pub stampedWire : Bool → Lent → Stamped → Frame
+stampedWire ev l p = headedBy (stamp (p .timestamp) (p .«relay_id»)) (bodyWire ev l (p .body))
 
 abbrev pub stampedOfEvent : EventPayload → Stamped
 stampedOfEvent p = record { timestamp = p .timestamp; «relay_id» = p .«relay_id»; body = p .events }
@@ -28,8 +28,8 @@ stampedOfEvent p = record { timestamp = p .timestamp; «relay_id» = p .«relay_
 abbrev pub stampedOfCommand : CommandPayload → Stamped
 stampedOfCommand p = record { timestamp = p .timestamp; «relay_id» = p .«relay_id»; body = p .commands }
 
-unfoldable pub eventWire : List ℕ → EventPayload → Frame
-eventWire s p = stampedWire s (stampedOfEvent p)
+unfoldable pub eventWire : Lent → EventPayload → Frame
+eventWire l p = stampedWire true l (stampedOfEvent p)
 
-unfoldable pub commandWire : List ℕ → CommandPayload → Frame
-commandWire s p = stampedWire s (stampedOfCommand p)
+unfoldable pub commandWire : Lent → CommandPayload → Frame
+commandWire l p = stampedWire false l (stampedOfCommand p)

@@ -1,22 +1,25 @@
-// Event and command bodies: timestamp, relay id, and what follows them, nothing or one sealed run.
+// Event and command bodies: timestamp, relay id, and what follows them.
 ghost use mathlib.Core.Path.{_≡_};
+ghost use mathlib.Core.Bool.{Bool, not};
 ghost use Rattle.base.specs.Answers.{answerOf, outOf};
-ghost use Rattle.events.specs.Read.{bodyOf, stampedAt, eventAt, commandAt};
 ghost use Rattle.payloads.specs.Write.{limitedOf, prefixed, withMic};
-ghost use Rattle.events.specs.Write.{stamp, runOf, stampedOfEvent, stampedOfCommand, eventWire, commandWire, stampedWire};
+ghost use Rattle.bodies.specs.Body.{lent};
+ghost use Rattle.bodies.specs.Open.{decryptOf, workAfter, decodeOf};
+ghost use Rattle.events.specs.Read.{stampedAt, eventAt, commandAt};
+ghost use Rattle.events.specs.Write.{stamp, stampedOfEvent, stampedOfCommand, eventWire, commandWire, stampedWire};
+ghost use Rattle.events.specs.Seal.{stampedSeal, sealedAs, eventSeal, eventSealed, commandSeal, commandSealed, eventOpened, commandOpened};
+use aes128::Aes128Key;
+use aes128::prepare;
 use base::Limit;
 use base::Refusal;
 use base::Written;
-use payloads::write_body;
-use payloads::write_frame;
-use wire::Run;
+use bodies::Body;
+use bodies::Opened;
+use items::Opening;
+use seal::add_stream;
 use wire::be32_bytes;
 use wire::be32_of;
-
-pub enum Body {
-    Empty,
-    Sealed(Run),
-}
+use wire::put_all;
 
 pub struct EventPayload {
     pub timestamp: u32,
@@ -26,6 +29,16 @@ pub struct EventPayload {
 
 pub enum EventRead {
     Payload(EventPayload),
+    Refused(u8),
+}
+
+// What opening answers: the payload from now on, and what was in it.
+pub enum EventOpened {
+    Opened {
+        payload: EventPayload,
+        opening: Opening,
+    },
+    AlreadyOpen,
     Refused(u8),
 }
 
@@ -40,6 +53,15 @@ pub enum CommandRead {
     Refused(u8),
 }
 
+pub enum CommandOpened {
+    Opened {
+        payload: CommandPayload,
+        opening: Opening,
+    },
+    AlreadyOpen,
+    Refused(u8),
+}
+
 // What the two have in common.
 struct Stamped {
     timestamp: u32,
@@ -50,32 +72,6 @@ struct Stamped {
 enum StampedRead {
     Stamped(Stamped),
     Refused(u8),
-}
-
-impl Body {
-    // The shortest body of an event or a command.
-    pub const LEAST: usize = 8;
-
-    // What follows the relay id, n bytes of it from a place on.
-    fn of(start: usize, n: usize) -> Body
-        ensures { λ r. ⌜ r ≡ bodyOf start n ⌝ }
-    {
-        if n == 0 {
-            Body::Empty
-        } else {
-            Body::Sealed(Run { start, len: n })
-        }
-    }
-
-    // Its run; an empty one has no bytes.
-    fn run(self) -> Run
-        ensures { λ r. ⌜ r ≡ runOf self ⌝ }
-    {
-        match self {
-            Body::Empty => Run { start: 0, len: 0 },
-            Body::Sealed(r) => r,
-        }
-    }
 }
 
 impl Stamped {
@@ -103,32 +99,151 @@ impl Stamped {
         [t[0], t[1], t[2], t[3], r[0], r[1], r[2], r[3]]
     }
 
-    fn write(self, src: &[u8], out: &mut [u8]) -> Written
-        ensures answer { λ r. ⌜ r ≡ answerOf (limitedOf (stampedWire (now (src .entry)) self)) (now (out .entry)) ⌝ }
-        ensures bytes { λ _. ⌜ now (out .exit) ≡ outOf (limitedOf (stampedWire (now (src .entry)) self)) (now (out .entry)) ⌝ }
+    fn write<'a>(
+        self,
+        is_event: bool,
+        frame: &'a [u8],
+        work: &'a [u8],
+        kinds: &[[u8; 2]],
+        spans: &[[u32; 2]],
+        ids: &[u32],
+        rssis: &[i16],
+        snrs: &[i8],
+        out: &mut [u8],
+    ) -> Written
+        ensures answer { λ r. ⌜ r ≡ answerOf (limitedOf (stampedWire «is_event» (lent (now (frame .entry)) (now (work .entry)) (now (kinds .entry)) (now (spans .entry)) (now (ids .entry)) (now (rssis .entry)) (now (snrs .entry))) self)) (now (out .entry)) ⌝ }
+        ensures bytes { λ _. ⌜ now (out .exit) ≡ outOf (limitedOf (stampedWire «is_event» (lent (now (frame .entry)) (now (work .entry)) (now (kinds .entry)) (now (spans .entry)) (now (ids .entry)) (now (rssis .entry)) (now (snrs .entry))) self)) (now (out .entry)) ⌝ }
     {
         let body = self.body;
-        let run = body.run();
-        let bad = run.refusal(src.len());
+        let bad = body.refusal(is_event, frame, work, kinds, spans, ids, rssis, snrs);
         if bad != 0 {
             return Written::Refused(bad);
         }
+        let n = body.size(is_event, frame, work, kinds, spans, ids, rssis, snrs);
+        if Limit::PAYLOAD < n {
+            return Written::Refused(Refusal::FRAME_LONG);
+        }
+        if out.len() < 8 + n {
+            return Written::Refused(Refusal::OUTPUT_SHORT);
+        }
         let h = self.head();
-        write_body(&h, run.bytes(src), out)
+        put_all(&h, out, 0);
+        body.put(
+            is_event,
+            frame,
+            work,
+            kinds,
+            spans,
+            ids,
+            rssis,
+            snrs,
+            out,
+            8,
+        );
+        Written::Bytes(8 + n)
     }
 
-    fn write_in(self, first: u8, has_mic: bool, mic: u32, src: &[u8], out: &mut [u8]) -> Written
-        ensures answer { λ r. ⌜ r ≡ answerOf (withMic «has_mic» mic (prefixed first (stampedWire (now (src .entry)) self))) (now (out .entry)) ⌝ }
-        ensures bytes { λ _. ⌜ now (out .exit) ≡ outOf (withMic «has_mic» mic (prefixed first (stampedWire (now (src .entry)) self))) (now (out .entry)) ⌝ }
+    fn write_in<'a>(
+        self,
+        is_event: bool,
+        first: u8,
+        has_mic: bool,
+        mic: u32,
+        frame: &'a [u8],
+        work: &'a [u8],
+        kinds: &[[u8; 2]],
+        spans: &[[u32; 2]],
+        ids: &[u32],
+        rssis: &[i16],
+        snrs: &[i8],
+        out: &mut [u8],
+    ) -> Written
+        ensures answer { λ r. ⌜ r ≡ answerOf (withMic «has_mic» mic (prefixed first (stampedWire «is_event» (lent (now (frame .entry)) (now (work .entry)) (now (kinds .entry)) (now (spans .entry)) (now (ids .entry)) (now (rssis .entry)) (now (snrs .entry))) self))) (now (out .entry)) ⌝ }
+        ensures bytes { λ _. ⌜ now (out .exit) ≡ outOf (withMic «has_mic» mic (prefixed first (stampedWire «is_event» (lent (now (frame .entry)) (now (work .entry)) (now (kinds .entry)) (now (spans .entry)) (now (ids .entry)) (now (rssis .entry)) (now (snrs .entry))) self))) (now (out .entry)) ⌝ }
     {
         let body = self.body;
-        let run = body.run();
-        let bad = run.refusal(src.len());
+        let bad = body.refusal(is_event, frame, work, kinds, spans, ids, rssis, snrs);
         if bad != 0 {
             return Written::Refused(bad);
         }
+        if !has_mic {
+            return Written::Refused(Refusal::MIC_MISSING);
+        }
+        let n = body.size(is_event, frame, work, kinds, spans, ids, rssis, snrs);
+        if Limit::PAYLOAD < n {
+            return Written::Refused(Refusal::FRAME_LONG);
+        }
+        if out.len() < 13 + n {
+            return Written::Refused(Refusal::OUTPUT_SHORT);
+        }
+        let byte = [first];
         let h = self.head();
-        write_frame(first, &h, run.bytes(src), has_mic, mic, out)
+        let last = be32_bytes(mic);
+        put_all(&byte, out, 0);
+        put_all(&h, out, 1);
+        body.put(
+            is_event,
+            frame,
+            work,
+            kinds,
+            spans,
+            ids,
+            rssis,
+            snrs,
+            out,
+            9,
+        );
+        put_all(&last, out, 9 + n);
+        Written::Bytes(13 + n)
+    }
+
+    fn encrypt<'a>(
+        self,
+        is_event: bool,
+        key: Aes128Key,
+        frame: &'a [u8],
+        work: &'a [u8],
+        kinds: &[[u8; 2]],
+        spans: &[[u32; 2]],
+        ids: &[u32],
+        rssis: &[i16],
+        snrs: &[i8],
+        out: &mut [u8],
+    ) -> StampedRead
+        ensures answer { λ r. ⌜ r ≡ sealedAs self (answerOf (stampedSeal «is_event» (key .0) (lent (now (frame .entry)) (now (work .entry)) (now (kinds .entry)) (now (spans .entry)) (now (ids .entry)) (now (rssis .entry)) (now (snrs .entry))) self) (now (out .entry))) ⌝ }
+        ensures bytes { λ _. ⌜ now (out .exit) ≡ outOf (stampedSeal «is_event» (key .0) (lent (now (frame .entry)) (now (work .entry)) (now (kinds .entry)) (now (spans .entry)) (now (ids .entry)) (now (rssis .entry)) (now (snrs .entry))) self) (now (out .entry)) ⌝ }
+    {
+        let body = self.body;
+        let bad = body.refusal(is_event, frame, work, kinds, spans, ids, rssis, snrs);
+        if bad != 0 {
+            return StampedRead::Refused(bad);
+        }
+        let n = body.size(is_event, frame, work, kinds, spans, ids, rssis, snrs);
+        if Limit::PAYLOAD < n {
+            return StampedRead::Refused(Refusal::FRAME_LONG);
+        }
+        if out.len() < n {
+            return StampedRead::Refused(Refusal::OUTPUT_SHORT);
+        }
+        body.put(
+            is_event,
+            frame,
+            work,
+            kinds,
+            spans,
+            ids,
+            rssis,
+            snrs,
+            out,
+            0,
+        );
+        let e = prepare(key);
+        add_stream(&e, !is_event, self.relay_id, self.timestamp, &mut out[..n]);
+        StampedRead::Stamped(Stamped {
+            timestamp: self.timestamp,
+            relay_id: self.relay_id,
+            body: Body::of(0, n),
+        })
     }
 }
 
@@ -167,20 +282,120 @@ impl EventPayload {
         }
     }
 
-    // The body: 45, 5, 21.
-    pub fn write(self, src: &[u8], out: &mut [u8]) -> Written
-        ensures answer { λ r. ⌜ r ≡ answerOf (limitedOf (eventWire (now (src .entry)) self)) (now (out .entry)) ⌝ }
-        ensures bytes { λ _. ⌜ now (out .exit) ≡ outOf (limitedOf (eventWire (now (src .entry)) self)) (now (out .entry)) ⌝ }
+    // The body: 45, path entries, 19, 20, 5, 21.
+    pub fn write<'a>(
+        self,
+        frame: &'a [u8],
+        work: &'a [u8],
+        kinds: &[[u8; 2]],
+        spans: &[[u32; 2]],
+        ids: &[u32],
+        rssis: &[i16],
+        snrs: &[i8],
+        out: &mut [u8],
+    ) -> Written
+        ensures answer { λ r. ⌜ r ≡ answerOf (limitedOf (eventWire (lent (now (frame .entry)) (now (work .entry)) (now (kinds .entry)) (now (spans .entry)) (now (ids .entry)) (now (rssis .entry)) (now (snrs .entry))) self)) (now (out .entry)) ⌝ }
+        ensures bytes { λ _. ⌜ now (out .exit) ≡ outOf (limitedOf (eventWire (lent (now (frame .entry)) (now (work .entry)) (now (kinds .entry)) (now (spans .entry)) (now (ids .entry)) (now (rssis .entry)) (now (snrs .entry))) self)) (now (out .entry)) ⌝ }
     {
-        self.stamped().write(src, out)
+        self.stamped()
+            .write(true, frame, work, kinds, spans, ids, rssis, snrs, out)
     }
 
-    // The frame around it, behind its header byte: 45, 27, 5, 21.
-    pub fn write_in(self, first: u8, has_mic: bool, mic: u32, src: &[u8], out: &mut [u8]) -> Written
-        ensures answer { λ r. ⌜ r ≡ answerOf (withMic «has_mic» mic (prefixed first (eventWire (now (src .entry)) self))) (now (out .entry)) ⌝ }
-        ensures bytes { λ _. ⌜ now (out .exit) ≡ outOf (withMic «has_mic» mic (prefixed first (eventWire (now (src .entry)) self))) (now (out .entry)) ⌝ }
+    // The frame around it, behind its header byte: 45, path entries, 19, 20, 27, 5, 21.
+    pub fn write_in<'a>(
+        self,
+        first: u8,
+        has_mic: bool,
+        mic: u32,
+        frame: &'a [u8],
+        work: &'a [u8],
+        kinds: &[[u8; 2]],
+        spans: &[[u32; 2]],
+        ids: &[u32],
+        rssis: &[i16],
+        snrs: &[i8],
+        out: &mut [u8],
+    ) -> Written
+        ensures answer { λ r. ⌜ r ≡ answerOf (withMic «has_mic» mic (prefixed first (eventWire (lent (now (frame .entry)) (now (work .entry)) (now (kinds .entry)) (now (spans .entry)) (now (ids .entry)) (now (rssis .entry)) (now (snrs .entry))) self))) (now (out .entry)) ⌝ }
+        ensures bytes { λ _. ⌜ now (out .exit) ≡ outOf (withMic «has_mic» mic (prefixed first (eventWire (lent (now (frame .entry)) (now (work .entry)) (now (kinds .entry)) (now (spans .entry)) (now (ids .entry)) (now (rssis .entry)) (now (snrs .entry))) self))) (now (out .entry)) ⌝ }
     {
-        self.stamped().write_in(first, has_mic, mic, src, out)
+        self.stamped().write_in(
+            true,
+            first,
+            has_mic,
+            mic,
+            frame,
+            work,
+            kinds,
+            spans,
+            ids,
+            rssis,
+            snrs,
+            out,
+        )
+    }
+
+    // Sealed at the front of out, where it lies from then on: 45, path entries, 19, 20, 5, 21.
+    pub fn encrypt<'a>(
+        self,
+        key: Aes128Key,
+        frame: &'a [u8],
+        work: &'a [u8],
+        kinds: &[[u8; 2]],
+        spans: &[[u32; 2]],
+        ids: &[u32],
+        rssis: &[i16],
+        snrs: &[i8],
+        out: &mut [u8],
+    ) -> EventRead
+        ensures answer { λ r. ⌜ r ≡ eventSealed self (answerOf (eventSeal (key .0) (lent (now (frame .entry)) (now (work .entry)) (now (kinds .entry)) (now (spans .entry)) (now (ids .entry)) (now (rssis .entry)) (now (snrs .entry))) self) (now (out .entry))) ⌝ }
+        ensures bytes { λ _. ⌜ now (out .exit) ≡ outOf (eventSeal (key .0) (lent (now (frame .entry)) (now (work .entry)) (now (kinds .entry)) (now (spans .entry)) (now (ids .entry)) (now (rssis .entry)) (now (snrs .entry))) self) (now (out .entry)) ⌝ }
+    {
+        match self.stamped().encrypt(true, key, frame, work, kinds, spans, ids, rssis, snrs, out) {
+            StampedRead::Refused(n) => EventRead::Refused(n),
+            StampedRead::Stamped(s) => {
+                let events = s.body;
+                EventRead::Payload(EventPayload {
+                    timestamp: s.timestamp,
+                    relay_id: s.relay_id,
+                    events,
+                })
+            }
+        }
+    }
+
+    fn opened(self, o: Opened) -> EventOpened
+        ensures { λ r. ⌜ r ≡ eventOpened self o ⌝ }
+    {
+        match o {
+            Opened::Refused(n) => EventOpened::Refused(n),
+            Opened::AlreadyOpen => EventOpened::AlreadyOpen,
+            Opened::Opened { body, opening } => EventOpened::Opened {
+                payload: EventPayload {
+                    timestamp: self.timestamp,
+                    relay_id: self.relay_id,
+                    events: body,
+                },
+                opening,
+            },
+        }
+    }
+
+    // The clear bytes go into the work buffer: 22, 23, 45, 5, 21.
+    pub fn decrypt(self, key: Aes128Key, frame: &[u8], work: &mut [u8]) -> EventOpened
+        ensures answer { λ r. ⌜ r ≡ eventOpened self (decryptOf (key .0) Bool.false (self .«relay_id») (self .timestamp) (self .events) (now (frame .entry)) (now (work .entry))) ⌝ }
+        ensures work { λ _. ⌜ now (work .exit) ≡ workAfter (key .0) Bool.false (self .«relay_id») (self .timestamp) (self .events) (now (frame .entry)) (now (work .entry)) ⌝ }
+    {
+        let body = self.events;
+        self.opened(body.decrypt(key, false, self.relay_id, self.timestamp, frame, work))
+    }
+
+    // The frame is read as it stands; if sealed: 45, 5.
+    pub fn decode<'a>(self, frame: &'a [u8], work: &'a [u8]) -> EventOpened
+        ensures { λ r. ⌜ r ≡ eventOpened self (decodeOf Bool.true (self .events) (now (frame .entry)) (now (work .entry))) ⌝ }
+    {
+        let body = self.events;
+        self.opened(body.decode(true, frame, work))
     }
 }
 
@@ -219,19 +434,119 @@ impl CommandPayload {
         }
     }
 
-    // The body: 45, 5, 21.
-    pub fn write(self, src: &[u8], out: &mut [u8]) -> Written
-        ensures answer { λ r. ⌜ r ≡ answerOf (limitedOf (commandWire (now (src .entry)) self)) (now (out .entry)) ⌝ }
-        ensures bytes { λ _. ⌜ now (out .exit) ≡ outOf (limitedOf (commandWire (now (src .entry)) self)) (now (out .entry)) ⌝ }
+    // The body: 45, path entries, 19, 20, 5, 21.
+    pub fn write<'a>(
+        self,
+        frame: &'a [u8],
+        work: &'a [u8],
+        kinds: &[[u8; 2]],
+        spans: &[[u32; 2]],
+        ids: &[u32],
+        rssis: &[i16],
+        snrs: &[i8],
+        out: &mut [u8],
+    ) -> Written
+        ensures answer { λ r. ⌜ r ≡ answerOf (limitedOf (commandWire (lent (now (frame .entry)) (now (work .entry)) (now (kinds .entry)) (now (spans .entry)) (now (ids .entry)) (now (rssis .entry)) (now (snrs .entry))) self)) (now (out .entry)) ⌝ }
+        ensures bytes { λ _. ⌜ now (out .exit) ≡ outOf (limitedOf (commandWire (lent (now (frame .entry)) (now (work .entry)) (now (kinds .entry)) (now (spans .entry)) (now (ids .entry)) (now (rssis .entry)) (now (snrs .entry))) self)) (now (out .entry)) ⌝ }
     {
-        self.stamped().write(src, out)
+        self.stamped()
+            .write(false, frame, work, kinds, spans, ids, rssis, snrs, out)
     }
 
-    // The frame around it, behind its header byte: 45, 27, 5, 21.
-    pub fn write_in(self, first: u8, has_mic: bool, mic: u32, src: &[u8], out: &mut [u8]) -> Written
-        ensures answer { λ r. ⌜ r ≡ answerOf (withMic «has_mic» mic (prefixed first (commandWire (now (src .entry)) self))) (now (out .entry)) ⌝ }
-        ensures bytes { λ _. ⌜ now (out .exit) ≡ outOf (withMic «has_mic» mic (prefixed first (commandWire (now (src .entry)) self))) (now (out .entry)) ⌝ }
+    // The frame around it, behind its header byte: 45, path entries, 19, 20, 27, 5, 21.
+    pub fn write_in<'a>(
+        self,
+        first: u8,
+        has_mic: bool,
+        mic: u32,
+        frame: &'a [u8],
+        work: &'a [u8],
+        kinds: &[[u8; 2]],
+        spans: &[[u32; 2]],
+        ids: &[u32],
+        rssis: &[i16],
+        snrs: &[i8],
+        out: &mut [u8],
+    ) -> Written
+        ensures answer { λ r. ⌜ r ≡ answerOf (withMic «has_mic» mic (prefixed first (commandWire (lent (now (frame .entry)) (now (work .entry)) (now (kinds .entry)) (now (spans .entry)) (now (ids .entry)) (now (rssis .entry)) (now (snrs .entry))) self))) (now (out .entry)) ⌝ }
+        ensures bytes { λ _. ⌜ now (out .exit) ≡ outOf (withMic «has_mic» mic (prefixed first (commandWire (lent (now (frame .entry)) (now (work .entry)) (now (kinds .entry)) (now (spans .entry)) (now (ids .entry)) (now (rssis .entry)) (now (snrs .entry))) self))) (now (out .entry)) ⌝ }
     {
-        self.stamped().write_in(first, has_mic, mic, src, out)
+        self.stamped().write_in(
+            false,
+            first,
+            has_mic,
+            mic,
+            frame,
+            work,
+            kinds,
+            spans,
+            ids,
+            rssis,
+            snrs,
+            out,
+        )
+    }
+
+    // Sealed at the front of out, where it lies from then on: 45, path entries, 19, 20, 5, 21.
+    pub fn encrypt<'a>(
+        self,
+        key: Aes128Key,
+        frame: &'a [u8],
+        work: &'a [u8],
+        kinds: &[[u8; 2]],
+        spans: &[[u32; 2]],
+        ids: &[u32],
+        rssis: &[i16],
+        snrs: &[i8],
+        out: &mut [u8],
+    ) -> CommandRead
+        ensures answer { λ r. ⌜ r ≡ commandSealed self (answerOf (commandSeal (key .0) (lent (now (frame .entry)) (now (work .entry)) (now (kinds .entry)) (now (spans .entry)) (now (ids .entry)) (now (rssis .entry)) (now (snrs .entry))) self) (now (out .entry))) ⌝ }
+        ensures bytes { λ _. ⌜ now (out .exit) ≡ outOf (commandSeal (key .0) (lent (now (frame .entry)) (now (work .entry)) (now (kinds .entry)) (now (spans .entry)) (now (ids .entry)) (now (rssis .entry)) (now (snrs .entry))) self) (now (out .entry)) ⌝ }
+    {
+        match self.stamped().encrypt(false, key, frame, work, kinds, spans, ids, rssis, snrs, out) {
+            StampedRead::Refused(n) => CommandRead::Refused(n),
+            StampedRead::Stamped(s) => {
+                let commands = s.body;
+                CommandRead::Payload(CommandPayload {
+                    timestamp: s.timestamp,
+                    relay_id: s.relay_id,
+                    commands,
+                })
+            }
+        }
+    }
+
+    fn opened(self, o: Opened) -> CommandOpened
+        ensures { λ r. ⌜ r ≡ commandOpened self o ⌝ }
+    {
+        match o {
+            Opened::Refused(n) => CommandOpened::Refused(n),
+            Opened::AlreadyOpen => CommandOpened::AlreadyOpen,
+            Opened::Opened { body, opening } => CommandOpened::Opened {
+                payload: CommandPayload {
+                    timestamp: self.timestamp,
+                    relay_id: self.relay_id,
+                    commands: body,
+                },
+                opening,
+            },
+        }
+    }
+
+    // The clear bytes go into the work buffer: 22, 23, 45, 5, 21.
+    pub fn decrypt(self, key: Aes128Key, frame: &[u8], work: &mut [u8]) -> CommandOpened
+        ensures answer { λ r. ⌜ r ≡ commandOpened self (decryptOf (key .0) Bool.true (self .«relay_id») (self .timestamp) (self .commands) (now (frame .entry)) (now (work .entry))) ⌝ }
+        ensures work { λ _. ⌜ now (work .exit) ≡ workAfter (key .0) Bool.true (self .«relay_id») (self .timestamp) (self .commands) (now (frame .entry)) (now (work .entry)) ⌝ }
+    {
+        let body = self.commands;
+        self.opened(body.decrypt(key, true, self.relay_id, self.timestamp, frame, work))
+    }
+
+    // The frame is read as it stands; if sealed: 45, 5.
+    pub fn decode<'a>(self, frame: &'a [u8], work: &'a [u8]) -> CommandOpened
+        ensures { λ r. ⌜ r ≡ commandOpened self (decodeOf Bool.false (self .commands) (now (frame .entry)) (now (work .entry))) ⌝ }
+    {
+        let body = self.commands;
+        self.opened(body.decode(false, frame, work))
     }
 }

@@ -14,6 +14,10 @@ use Rattle.mesh_c.proofs.mesh_cmac.Kinds as mesh-cmac-kinds
 use Rattle.mesh_c.proofs.mesh_cmac.Reads as mesh-cmac-reads
 use Rattle.mesh_c.proofs.mesh_mac.Kinds as mesh-mac-kinds
 use Rattle.mesh_c.proofs.mesh_mac.Reads as mesh-mac-reads
+use Rattle.mesh_c.proofs.mesh_stream.Kinds as mesh-stream-kinds
+use Rattle.mesh_c.proofs.mesh_stream.Reads as mesh-stream-reads
+use Rattle.mesh_c.proofs.mesh_count.Kinds as mesh-count-kinds
+use Rattle.mesh_c.proofs.mesh_count.Reads as mesh-count-reads
 
 mesh-encrypt-block : Fixed 2 mesh-encrypt-block-kinds.ps mesh-encrypt-block-kinds.r mesh-encrypt-block-reads.Post
 mesh-encrypt-block κs a x y v w p q = (refl, ap (λ (l : List ℕ). (tt, (l, tt))) (p ∙ sym q))
@@ -29,3 +33,9 @@ mesh-cmac κs a x y v w p q = (refl, ap (λ (l : List ℕ). (tt, (tt, (l, tt))))
 
 mesh-mac : Fixed 3 mesh-mac-kinds.ps mesh-mac-kinds.r mesh-mac-reads.Post
 mesh-mac κs a x y v w p q = (refl, ap (λ (l : List ℕ). (tt, (tt, (l, tt)))) (p ∙ sym q))
+
+mesh-stream : Fixed 3 mesh-stream-kinds.ps mesh-stream-kinds.r mesh-stream-reads.Post
+mesh-stream κs a x y v w p q = (p .0 ∙ sym (q .0), ap (λ (l : List ℕ). (tt, (tt, (tt, (tt, (tt, (l, tt))))))) (p .1 ∙ sym (q .1)))
+
+mesh-count : Fixed 2 mesh-count-kinds.ps mesh-count-kinds.r mesh-count-reads.Post
+mesh-count κs a x y v w p q = (p .0 ∙ sym (q .0), ap (λ (l : List ℕ). (tt, (tt, (l, tt)))) (p .1 ∙ sym (q .1)))

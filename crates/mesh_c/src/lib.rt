@@ -3,13 +3,22 @@ ghost use mathlib.Core.Path.{_≡_};
 ghost use Rattle.fips197.specs.Aes.{aes};
 ghost use Rattle.cipher.specs.Words.{prepared, enciphered};
 ghost use Rattle.cmac.specs.Cmac.{tag};
+ghost use Rattle.base.specs.Answers.{answerOf, outOf};
+ghost use Rattle.seal.specs.Stream.{sealedOf};
+ghost use Rattle.items.specs.Items.{countsOf};
+ghost use Rattle.mesh_c.specs.Face.{writtenNumber, countNumber, countList};
 use aes128::Aes128Key;
 use aes128::encrypt_block;
 use aes128::prepare;
+use base::Written;
 use cipher::Cipher;
 use cipher::encipher;
 use cmac::Mac;
 use cmac::cmac;
+use items::Command;
+use items::Event;
+use items::OpeningRead;
+use seal::encrypt_events_commands;
 
 // One block under a key, in place.
 #[no_mangle]
@@ -53,4 +62,60 @@ pub extern "C" fn mesh_mac(cipher: &Cipher, message: &[u8], out: &mut [u8; 16])
 {
     let r = Mac::start().absorb(cipher, message).finish(cipher);
     *out = r;
+}
+
+// A payload sealed, or a sealed one opened: 0, 5 or 21.
+#[no_mangle]
+pub extern "C" fn mesh_stream(
+    key: &[u8; 16],
+    is_command: bool,
+    relay_id: u32,
+    timestamp: u32,
+    payload: &[u8],
+    out: &mut [u8],
+) -> u8
+    ensures answer { λ r. ⌜ r ≡ writtenNumber (answerOf (sealedOf (now (key .entry)) «is_command» «relay_id» timestamp (now (payload .entry))) (now (out .entry))) ⌝ }
+    ensures bytes { λ _. ⌜ now (out .exit) ≡ outOf (sealedOf (now (key .entry)) «is_command» «relay_id» timestamp (now (payload .entry))) (now (out .entry)) ⌝ }
+{
+    match encrypt_events_commands(
+        Aes128Key::from_bytes(*key),
+        is_command,
+        relay_id,
+        timestamp,
+        payload,
+        out,
+    ) {
+        Written::Bytes(_) => 0,
+        Written::Refused(n) => n,
+    }
+}
+
+fn counted(is_event: bool, payload: &[u8]) -> OpeningRead
+    ensures { λ r. ⌜ r ≡ countsOf «is_event» (now (payload .entry)) ⌝ }
+{
+    if is_event {
+        return Event::count(payload);
+    }
+    Command::count(payload)
+}
+
+// What a clear payload holds: 0, or 5.
+#[no_mangle]
+pub extern "C" fn mesh_count(is_event: bool, payload: &[u8], counts: &mut [u64; 5]) -> u8
+    ensures answer { λ r. ⌜ r ≡ countNumber (countsOf «is_event» (now (payload .entry))) ⌝ }
+    ensures counts { λ _. ⌜ now (counts .exit) ≡ countList (countsOf «is_event» (now (payload .entry))) (now (counts .entry)) ⌝ }
+{
+    match counted(is_event, payload) {
+        OpeningRead::Refused(n) => n,
+        OpeningRead::Opening(o) => {
+            *counts = [
+                o.kept as u64,
+                o.skipped as u64,
+                o.kept_bytes as u64,
+                o.skipped_bytes as u64,
+                o.cut_bytes as u64,
+            ];
+            0
+        }
+    }
 }

@@ -23,6 +23,8 @@ use Rattle.fields.specs.declared.header.HeaderByte.{HeaderByte}
 use Rattle.fields.specs.declared.header.HeaderByte.the-variants.{Byte}
 use Rattle.fields.proofs.Laws.Header.{header-again}
 use Rattle.payloads.specs.Read.{fourAt}
+use Rattle.composed.specs.Composed.{Lists}
+use Rattle.packets.specs.Which.{framed}
 use Rattle.payloads.proofs.Steps.{listed}
 use Rattle.payloads.specs.Write.{withMic}
 use Rattle.packets.specs.Read.{bodyIn, payloadAt, withPayload, withHeader, meshOf}
@@ -86,10 +88,10 @@ last-four s i h n =
     ap (λ (x : List ℕ). beBytes 4 (beOf x)) (sym e) ∙ ap (λ (k : ℕ). beBytes k (beOf D)) (sym l) ∙ bytes-of D b
 
 -- written again: the same header byte, the body as it is written, and the same MIC
-pub read-written : (s : List ℕ) (p : MeshPacket) (v : List ℕ) → Bytes s → meshOf s ≡ Mesh p → payloadWire s (p .payload) ≡ bytes v → length v ≡ length s - 5
-    → meshFrame s p ≡ bytes ((getD s 0 0 ∷ v) ++ drop (length s - 4) s)
+pub read-written : (s : List ℕ) (x : Lists) (p : MeshPacket) (v : List ℕ) → Bytes s → meshOf s ≡ Mesh p → payloadWire (framed s x) (p .payload) ≡ bytes v → length v ≡ length s - 5
+    → meshFrame (framed s x) p ≡ bytes ((getD s 0 0 ∷ v) ++ drop (length s - 4) s)
 unfolding meshFrame messageOf withMic
-read-written s p v h e f n =
+read-written s x p v h e f n =
     let r = was-read s p e in
     let l = r .least in
     let m = r .most in
@@ -97,6 +99,6 @@ read-written s p v h e f n =
     let g : length (getD s 0 0 ∷ v) ≤ 8188 = omega arith in
     let q : length s ≡ length s - 4 + 4 = omega arith in
     let d : beBytes 4 (p .mic) ≡ drop (length s - 4) s = ap (beBytes 4) (r .mic) ∙ last-four s (length s - 4) h q in
-    ap₂ (λ (x : HeaderByte) (y : Frame). withMic (p .«has_mic») (p .mic) (behind x y)) b f
+    ap₂ (λ (z : HeaderByte) (y : Frame). withMic (p .«has_mic») (p .mic) (behind z y)) b f
     ∙ ap (λ (t : Bool). withMic t (p .mic) (bytes (getD s 0 0 ∷ v))) (r .signed)
-    ∙ simp (le-ltb 8188 (length (getD s 0 0 ∷ v)) g) (ap (λ (x : List ℕ). bytes ((getD s 0 0 ∷ v) ++ x)) d)
+    ∙ simp (le-ltb 8188 (length (getD s 0 0 ∷ v)) g) (ap (λ (y : List ℕ). bytes ((getD s 0 0 ∷ v) ++ y)) d)

@@ -21,16 +21,17 @@ use Rattle.fields.specs.declared.header.PayloadType.the-variants.{Uplink, Downl
 use Rattle.fields.proofs.Laws.Header.{header-back}
 use Rattle.wire.specs.Run.{runRefusal, runBytes}
 use Rattle.payloads.specs.Read.{uplinkAt, downlinkAt}
-use Rattle.events.specs.Read.{bodyOf, eventAt, commandAt}
+use Rattle.bodies.specs.Body.{Lent, bodyOf, bodyBytes}
+use Rattle.events.specs.Read.{eventAt, commandAt}
 use Rattle.payloads.specs.Write.{uplinkHead, uplinkWire, downlinkHead, downlinkWire}
-use Rattle.events.specs.Write.{runOf, stamp, stampedWire, eventWire, commandWire}
+use Rattle.events.specs.Write.{stamp, eventWire, commandWire}
 use Rattle.wire.specs.declared.run.Run.{Run}
 use Rattle.payloads.specs.declared.uplink.UplinkPayload.{UplinkPayload}
 use Rattle.payloads.specs.declared.downlink.DownlinkPayload.{DownlinkPayload}
 use Rattle.events.specs.declared.stamped.EventPayload.{EventPayload}
 use Rattle.events.specs.declared.stamped.CommandPayload.{CommandPayload}
 use Rattle.payloads.proofs.Laws.{unless-bytes, run-bytes, uplink-length, downlink-length, uplink-read-back, heard, downlink-read-back}
-use Rattle.events.proofs.Laws.{stamp-length, event-read-back, command-read-back}
+use Rattle.events.proofs.Laws.{stamp-length, stamped-bytes, event-read-back, command-read-back}
 use Rattle.packets.specs.Read.{ofUplink, ofDownlink, ofEvent, ofCommand, payloadAt, meshOf, packetOf}
 use Rattle.packets.specs.Write.{payloadWire, meshFrame, loraFrame}
 use Rattle.packets.specs.declared.mesh.Payload.{Payload}
@@ -58,7 +59,7 @@ holding p q = record { mhdr = p .mhdr; payload = q; «has_mic» = true; mic = p 
 abbrev pub at : ℕ → List ℕ → Run
 at n v = record { start = n; len = length v }
 
-module _ (s w : List ℕ) (p : MeshPacket) (written : meshFrame s p ≡ bytes w) (small : p .mic < 4294967296) where
+module _ (s : Lent) (w : List ℕ) (p : MeshPacket) (written : meshFrame s p ≡ bytes w) (small : p .mic < 4294967296) where
   k : Made s p w
   k = made s p w written
 
@@ -82,12 +83,12 @@ module _ (s w : List ℕ) (p : MeshPacket) (written : meshFrame s p ≡ bytes w)
 
   pub uplink-back : (u : UplinkPayload) → p .payload ≡ AnUplink u → p .mhdr .«payload_type» ≡ Uplink
       → u .metadata .channel < 256 → u .«relay_id» < 4294967296
-      → (meshOf w ≡ Mesh (holding p (AnUplink (record { metadata = u .metadata; «relay_id» = u .«relay_id»; «phy_payload» = at 10 (runBytes s (u .«phy_payload»)) }))))
-      × (runBytes w (at 10 (runBytes s (u .«phy_payload»))) ≡ runBytes s (u .«phy_payload»))
+      → (meshOf w ≡ Mesh (holding p (AnUplink (record { metadata = u .metadata; «relay_id» = u .«relay_id»; «phy_payload» = at 10 (runBytes (s .frame) (u .«phy_payload»)) }))))
+      × (runBytes w (at 10 (runBytes (s .frame) (u .«phy_payload»))) ≡ runBytes (s .frame) (u .«phy_payload»))
   unfolding payloadWire uplinkWire payloadAt
   uplink-back u eu et hc hr =
-      let v = runBytes s (u .«phy_payload») in
-      let g = run-bytes s (u .«phy_payload») (uplinkHead u) (k .body) (sym (ap (payloadWire s) eu) ∙ k .payload) in
+      let v = runBytes (s .frame) (u .«phy_payload») in
+      let g = run-bytes (s .frame) (u .«phy_payload») (uplinkHead u) (k .body) (sym (ap (payloadWire s) eu) ∙ k .payload) in
       let h = g .1 in
       let l = uplink-length u h (g .2) in
       let f = fits h v (g .3) in (
@@ -97,12 +98,12 @@ module _ (s w : List ℕ) (p : MeshPacket) (written : meshFrame s p ≡ bytes w)
 
   pub downlink-back : (u : DownlinkPayload) → p .payload ≡ ADownlink u → p .mhdr .«payload_type» ≡ Downlink → u .«relay_id» < 4294967296
       → (h : List ℕ) × (downlinkHead u ≡ bytes h)
-      × (meshOf w ≡ Mesh (holding p (ADownlink (record { metadata = heard (u .metadata) h; «relay_id» = u .«relay_id»; «phy_payload» = at 11 (runBytes s (u .«phy_payload»)) }))))
-      × (runBytes w (at 11 (runBytes s (u .«phy_payload»))) ≡ runBytes s (u .«phy_payload»))
+      × (meshOf w ≡ Mesh (holding p (ADownlink (record { metadata = heard (u .metadata) h; «relay_id» = u .«relay_id»; «phy_payload» = at 11 (runBytes (s .frame) (u .«phy_payload»)) }))))
+      × (runBytes w (at 11 (runBytes (s .frame) (u .«phy_payload»))) ≡ runBytes (s .frame) (u .«phy_payload»))
   unfolding payloadWire downlinkWire payloadAt
   downlink-back u eu et hr =
-      let v = runBytes s (u .«phy_payload») in
-      let g = run-bytes s (u .«phy_payload») (downlinkHead u) (k .body) (sym (ap (payloadWire s) eu) ∙ k .payload) in
+      let v = runBytes (s .frame) (u .«phy_payload») in
+      let g = run-bytes (s .frame) (u .«phy_payload») (downlinkHead u) (k .body) (sym (ap (payloadWire s) eu) ∙ k .payload) in
       let h = g .1 in
       let l = downlink-length u h (g .2) in
       let f = fits h v (g .3) in (
@@ -113,15 +114,13 @@ module _ (s w : List ℕ) (p : MeshPacket) (written : meshFrame s p ≡ bytes w)
       )
 
   pub event-back : (u : EventPayload) → p .payload ≡ AnEvent u → p .mhdr .«payload_type» ≡ Event → u .timestamp < 4294967296 → u .«relay_id» < 4294967296
-      → (meshOf w ≡ Mesh (holding p (AnEvent (record { timestamp = u .timestamp; «relay_id» = u .«relay_id»; events = bodyOf 9 (length (runBytes s (runOf (u .events)))) }))))
-      × (runBytes w (at 9 (runBytes s (runOf (u .events)))) ≡ runBytes s (runOf (u .events)))
-  unfolding payloadWire eventWire stampedWire payloadAt
+      → (meshOf w ≡ Mesh (holding p (AnEvent (record { timestamp = u .timestamp; «relay_id» = u .«relay_id»; events = bodyOf 9 (length (bodyBytes true s (u .events))) }))))
+      × (runBytes w (at 9 (bodyBytes true s (u .events))) ≡ bodyBytes true s (u .events))
+  unfolding payloadWire eventWire payloadAt
   event-back u eu et ht hr =
-      let v = runBytes s (runOf (u .events)) in
+      let v = bodyBytes true s (u .events) in
       let h = stamp (u .timestamp) (u .«relay_id») in
-      let g = run-bytes s (runOf (u .events)) (bytes h) (k .body) (sym (ap (payloadWire s) eu) ∙ k .payload) in
-      let y : g .1 ≡ h = cc (g .2) in
-      let e : k .body ≡ h ++ v = g .3 ∙ ap (λ (x : List ℕ). x ++ v) y in
+      let e : k .body ≡ h ++ v = stamped-bytes true s _ (k .body) (sym (ap (payloadWire s) eu) ∙ k .payload) in
       let l = stamp-length (u .timestamp) (u .«relay_id») in
       let f = fits h v e in (
         read Event et _ (ap (λ (x : List ℕ). ofEvent (eventAt 1 x)) e ∙ ap ofEvent (event-read-back (u .timestamp) (u .«relay_id») v 1 ht hr (omega arith))),
@@ -129,15 +128,13 @@ module _ (s w : List ℕ) (p : MeshPacket) (written : meshFrame s p ≡ bytes w)
       )
 
   pub command-back : (u : CommandPayload) → p .payload ≡ ACommand u → p .mhdr .«payload_type» ≡ Command → u .timestamp < 4294967296 → u .«relay_id» < 4294967296
-      → (meshOf w ≡ Mesh (holding p (ACommand (record { timestamp = u .timestamp; «relay_id» = u .«relay_id»; commands = bodyOf 9 (length (runBytes s (runOf (u .commands)))) }))))
-      × (runBytes w (at 9 (runBytes s (runOf (u .commands)))) ≡ runBytes s (runOf (u .commands)))
-  unfolding payloadWire commandWire stampedWire payloadAt
+      → (meshOf w ≡ Mesh (holding p (ACommand (record { timestamp = u .timestamp; «relay_id» = u .«relay_id»; commands = bodyOf 9 (length (bodyBytes false s (u .commands))) }))))
+      × (runBytes w (at 9 (bodyBytes false s (u .commands))) ≡ bodyBytes false s (u .commands))
+  unfolding payloadWire commandWire payloadAt
   command-back u eu et ht hr =
-      let v = runBytes s (runOf (u .commands)) in
+      let v = bodyBytes false s (u .commands) in
       let h = stamp (u .timestamp) (u .«relay_id») in
-      let g = run-bytes s (runOf (u .commands)) (bytes h) (k .body) (sym (ap (payloadWire s) eu) ∙ k .payload) in
-      let y : g .1 ≡ h = cc (g .2) in
-      let e : k .body ≡ h ++ v = g .3 ∙ ap (λ (x : List ℕ). x ++ v) y in
+      let e : k .body ≡ h ++ v = stamped-bytes false s _ (k .body) (sym (ap (payloadWire s) eu) ∙ k .payload) in
       let l = stamp-length (u .timestamp) (u .«relay_id») in
       let f = fits h v e in (
         read Command et _ (ap (λ (x : List ℕ). ofCommand (commandAt 1 x)) e ∙ ap ofCommand (command-read-back (u .timestamp) (u .«relay_id») v 1 ht hr (omega arith))),

@@ -2,25 +2,39 @@
 use mathlib.Core.Path.{refl, sym, ap, _∙_}
 use mathlib.Core.List.{List}
 use Prim.Native.Nat.{ℕ}
-use denote.Ref.{now}
-use Rattle.base.proofs.Outcome.{Fixed, FixedPart}
-use Rattle.packets.proofs.mesh.MeshPacket.from_slice.Kinds as mesh-from-slice-kinds
-use Rattle.packets.proofs.mesh.MeshPacket.from_slice.Reads as mesh-from-slice-reads
-use Rattle.packets.proofs.mesh.MeshPacket.write.Kinds as mesh-write-kinds
-use Rattle.packets.proofs.mesh.MeshPacket.write.Reads as mesh-write-reads
-use Rattle.packets.proofs.any.Packet.from_slice.Kinds as any-from-slice-kinds
-use Rattle.packets.proofs.any.Packet.from_slice.Reads as any-from-slice-reads
-use Rattle.packets.proofs.any.Packet.write.Kinds as any-write-kinds
-use Rattle.packets.proofs.any.Packet.write.Reads as any-write-reads
+use Rattle.base.proofs.Outcome.{Fixed}
+use Rattle.packets.proofs.any.Packet.from_slice.Kinds as packet-from-slice-kinds
+use Rattle.packets.proofs.any.Packet.from_slice.Reads as packet-from-slice-reads
+use Rattle.packets.proofs.any.Packet.write.Kinds as packet-write-kinds
+use Rattle.packets.proofs.any.Packet.write.Reads as packet-write-reads
+use Rattle.packets.proofs.mesh.MeshPacket.from_slice.Kinds as mesh-packet-from-slice-kinds
+use Rattle.packets.proofs.mesh.MeshPacket.from_slice.Reads as mesh-packet-from-slice-reads
+use Rattle.packets.proofs.mesh.MeshPacket.write.Kinds as mesh-packet-write-kinds
+use Rattle.packets.proofs.mesh.MeshPacket.write.Reads as mesh-packet-write-reads
+use Rattle.packets.proofs.mesh.MeshPacket.encrypt.Kinds as mesh-packet-encrypt-kinds
+use Rattle.packets.proofs.mesh.MeshPacket.encrypt.Reads as mesh-packet-encrypt-reads
+use Rattle.packets.proofs.mesh.MeshPacket.decrypt.Kinds as mesh-packet-decrypt-kinds
+use Rattle.packets.proofs.mesh.MeshPacket.decrypt.Reads as mesh-packet-decrypt-reads
+use Rattle.packets.proofs.mesh.MeshPacket.decode.Kinds as mesh-packet-decode-kinds
+use Rattle.packets.proofs.mesh.MeshPacket.decode.Reads as mesh-packet-decode-reads
 
-mesh-from-slice : Fixed 1 mesh-from-slice-kinds.ps mesh-from-slice-kinds.r mesh-from-slice-reads.Post
-mesh-from-slice κs a x y v w p q = (p ∙ sym q, refl)
+packet-from-slice : Fixed 1 packet-from-slice-kinds.ps packet-from-slice-kinds.r packet-from-slice-reads.Post
+packet-from-slice κs a x y v w p q = (p ∙ sym q, refl)
 
-mesh-write : Fixed 2 mesh-write-kinds.ps mesh-write-kinds.r mesh-write-reads.Post
-mesh-write κs a x y v w p q = (p .0 ∙ sym (q .0), ap (λ (l : List ℕ). (tt, (tt, (l, tt)))) (p .1 ∙ sym (q .1)))
+packet-write : Fixed 7 packet-write-kinds.ps packet-write-kinds.r packet-write-reads.Post
+packet-write κs a x y v w p q = (p .0 ∙ sym (q .0), ap (λ (l : List ℕ). (tt, (tt, (tt, (tt, (tt, (tt, (tt, (tt, (l, tt)))))))))) (p .1 ∙ sym (q .1)))
 
-any-from-slice : Fixed 1 any-from-slice-kinds.ps any-from-slice-kinds.r any-from-slice-reads.Post
-any-from-slice κs a x y v w p q = (p ∙ sym q, refl)
+mesh-packet-from-slice : Fixed 1 mesh-packet-from-slice-kinds.ps mesh-packet-from-slice-kinds.r mesh-packet-from-slice-reads.Post
+mesh-packet-from-slice κs a x y v w p q = (p ∙ sym q, refl)
 
-any-write : Fixed 2 any-write-kinds.ps any-write-kinds.r any-write-reads.Post
-any-write κs a x y v w p q = (p .0 ∙ sym (q .0), ap (λ (l : List ℕ). (tt, (tt, (l, tt)))) (p .1 ∙ sym (q .1)))
+mesh-packet-write : Fixed 7 mesh-packet-write-kinds.ps mesh-packet-write-kinds.r mesh-packet-write-reads.Post
+mesh-packet-write κs a x y v w p q = (p .0 ∙ sym (q .0), ap (λ (l : List ℕ). (tt, (tt, (tt, (tt, (tt, (tt, (tt, (tt, (l, tt)))))))))) (p .1 ∙ sym (q .1)))
+
+mesh-packet-encrypt : Fixed 7 mesh-packet-encrypt-kinds.ps mesh-packet-encrypt-kinds.r mesh-packet-encrypt-reads.Post
+mesh-packet-encrypt κs a x y v w p q = (p .0 ∙ sym (q .0), ap (λ (l : List ℕ). (tt, (tt, (tt, (tt, (tt, (tt, (tt, (tt, (tt, (l, tt))))))))))) (p .1 ∙ sym (q .1)))
+
+mesh-packet-decrypt : Fixed 2 mesh-packet-decrypt-kinds.ps mesh-packet-decrypt-kinds.r mesh-packet-decrypt-reads.Post
+mesh-packet-decrypt κs a x y v w p q = (p .0 ∙ sym (q .0), ap (λ (l : List ℕ). (tt, (tt, (tt, (l, tt))))) (p .1 ∙ sym (q .1)))
+
+mesh-packet-decode : Fixed 1 mesh-packet-decode-kinds.ps mesh-packet-decode-kinds.r mesh-packet-decode-reads.Post
+mesh-packet-decode κs a x y v w p q = (p ∙ sym q, refl)

@@ -23,12 +23,14 @@ use Rattle.fields.proofs.Laws.Header.{marked, not-marked}
 use Rattle.fields.proofs.Laws.Meta.{not-refused}
 use Rattle.wire.specs.Run.{runRefusal, runBytes}
 use Rattle.payloads.specs.Read.{uplinkAt, downlinkAt}
-use Rattle.events.specs.Read.{bodyOf, eventAt, commandAt}
+use Rattle.events.specs.Read.{eventAt, commandAt}
 use Rattle.payloads.specs.Write.{followed, withRun, uplinkHead, uplinkWire, downlinkHead, downlinkWire}
-use Rattle.events.specs.Write.{runOf, stamp, stampedWire, eventWire, commandWire}
+use Rattle.events.specs.Write.{stamp, stampedWire, eventWire, commandWire, headedBy}
 use Rattle.wire.specs.declared.run.Run.{Run}
-use Rattle.events.specs.declared.stamped.Body.{Body}
-use Rattle.events.specs.declared.stamped.Body.the-variants.{Empty, Sealed}
+use Rattle.composed.specs.Composed.{Lists}
+use Rattle.bodies.specs.Body.{bodyRefusal, bodyBytes, bodyWire}
+use Rattle.bodies.specs.declared.body.Body.{Body}
+use Rattle.bodies.specs.declared.body.Body.the-variants.{Empty, Sealed}
 use Rattle.payloads.specs.declared.uplink.UplinkPayload.{UplinkPayload}
 use Rattle.payloads.specs.declared.uplink.UplinkRead.{UplinkRead}
 use Rattle.payloads.specs.declared.uplink.UplinkRead.the-variants.{Payload as UplinkIs, Refused as NoUplink}
@@ -46,7 +48,7 @@ use Rattle.payloads.proofs.Laws.{uplink-was, uplink-again, downlink-was, downli
 use Rattle.events.proofs.Laws.{event-was, event-again, command-was, command-again}
 use Rattle.packets.specs.Read.{bodyIn, ofUplink, ofDownlink, ofEvent, ofCommand, payloadAt, meshOf}
 use Rattle.packets.specs.Write.{payloadWire, meshFrame}
-use Rattle.packets.specs.Which.{cleared}
+use Rattle.packets.specs.Which.{cleared, framed}
 use Rattle.packets.specs.declared.mesh.Payload.{Payload}
 use Rattle.packets.specs.declared.mesh.Payload.the-variants.{Uplink as AnUplink, Downlink as ADownlink, Event as AnEvent, Command as ACommand}
 use Rattle.packets.specs.declared.mesh.PayloadRead.the-variants.{Payload as PayloadIs}
@@ -90,10 +92,6 @@ inside-by n start len h false e = simp (e, le-ltb n start (omega arith), le-ltb 
 
 inside : (n start len : ℕ) → start + len ≤ n → runRefusal n (record { start = start; len = len }) ≡ 0
 inside n start len h = inside-by n start len h (eqb len 0) refl
-
-nothing : (s : List ℕ) → partOf s 0 0 ≡ []
-unfolding partOf
-nothing s = simp (le-ltb (length s) 0 (omega arith), le-ltb (length s - 0) 0 (omega arith))
 
 module _ (s : List ℕ) (least : 5 ≤ length s) where
   abbrev b : List ℕ
@@ -141,7 +139,7 @@ module _ (s : List ℕ) (least : 5 ≤ length s) where
   halves : (k : ℕ) → k ≤ length b → from k 0 (λ i. getD b i 0) ++ drop k b ≡ b
   halves k h = ap (λ (x : List ℕ). x ++ drop k b) (front k b h) ∙ take-append-drop k b
 
-  module _ (bs : Bytes b) where
+  module _ (bs : Bytes b) (x : Lists) where
     up : (u : UplinkPayload) → uplinkAt 1 b ≡ UplinkIs u → uplinkWire s u ≡ bytes (set b 3 (getD b 3 0 % 64))
     unfolding uplinkWire
     up u e =
@@ -159,30 +157,33 @@ module _ (s : List ℕ) (least : 5 ≤ length s) where
         with-run 10 (u .«phy_payload») (downlinkHead u) _ (w .least) (w .run-is) (downlink-again 1 b u bs e) ∙ ap bytes (halves 10 (w .least))
 
     -- an event's or a command's: nothing behind the relay id, or one run
-    sealed-by : (time relay : ℕ) (t : Bool) → 8 ≤ length b → eqb (length b - 8) 0 ≡ t → stamp time relay ≡ from 8 0 (λ i. getD b i 0)
-        → withRun s (runOf (pick t Empty (Sealed (record { start = 9; len = length b - 8 })))) (bytes (stamp time relay)) ≡ bytes b
-    unfolding runRefusal
-    sealed-by time relay true l e q =
+    sealed-by : (ev : Bool) (time relay : ℕ) (t : Bool) → 8 ≤ length b → eqb (length b - 8) 0 ≡ t → stamp time relay ≡ from 8 0 (λ i. getD b i 0)
+        → headedBy (stamp time relay) (bodyWire ev (framed s x) (pick t Empty (Sealed (record { start = 9; len = length b - 8 })))) ≡ bytes b
+    unfolding bodyWire bodyRefusal bodyBytes
+    sealed-by ev time relay true l e q =
         let z : length b ≤ 8 = let y : length b - 8 ≡ 0 = eqb-true _ _ e in omega arith in
         let d : drop 8 b ≡ [] = drop-of-length-le b z in
-        ap bytes (ap (λ (x : List ℕ). stamp time relay ++ x) (nothing s) ∙ append-nil (stamp time relay) ∙ q ∙ sym (append-nil (from 8 0 (λ i. getD b i 0))) ∙ ap (λ (x : List ℕ). from 8 0 (λ i. getD b i 0) ++ x) (sym d) ∙ halves 8 l)
-    sealed-by time relay false l e q =
-        with-run 8 (record { start = 9; len = length b - 8 }) (bytes (stamp time relay)) (stamp time relay) l refl refl
-        ∙ ap bytes (ap (λ (x : List ℕ). x ++ drop 8 b) q ∙ halves 8 l)
+        ap bytes (append-nil (stamp time relay) ∙ q ∙ sym (append-nil (from 8 0 (λ i. getD b i 0))) ∙ ap (λ (v : List ℕ). from 8 0 (λ i. getD b i 0) ++ v) (sym d) ∙ halves 8 l)
+    sealed-by ev time relay false l e q =
+        let m = n in
+        let r : Run = record { start = 9; len = length b - 8 } in
+        ap (headedBy (stamp time relay)) (sym (not-refused (runRefusal (length s) r) (bytes (runBytes s r)) (inside (length s) 9 (length b - 8) (omega arith))))
+        ∙ ap (λ (v : List ℕ). bytes (stamp time relay ++ v)) (run-is 8 l)
+        ∙ ap bytes (ap (λ (v : List ℕ). v ++ drop 8 b) q ∙ halves 8 l)
 
-    event : (u : EventPayload) → eventAt 1 b ≡ EventIs u → eventWire s u ≡ bytes b
+    event : (u : EventPayload) → eventAt 1 b ≡ EventIs u → eventWire (framed s x) u ≡ bytes b
     unfolding eventWire stampedWire
     event u e =
         let w = event-was 1 b u e in
-        ap (λ (x : Body). withRun s (runOf x) (bytes (stamp (u .timestamp) (u .«relay_id»)))) (w .body-is)
-        ∙ sealed-by (u .timestamp) (u .«relay_id») (eqb (length b - 8) 0) (w .least) refl (event-again 1 b u bs e)
+        ap (λ (y : Body). headedBy (stamp (u .timestamp) (u .«relay_id»)) (bodyWire true (framed s x) y)) (w .body-is)
+        ∙ sealed-by true (u .timestamp) (u .«relay_id») (eqb (length b - 8) 0) (w .least) refl (event-again 1 b u bs e)
 
-    command : (u : CommandPayload) → commandAt 1 b ≡ CommandIs u → commandWire s u ≡ bytes b
+    command : (u : CommandPayload) → commandAt 1 b ≡ CommandIs u → commandWire (framed s x) u ≡ bytes b
     unfolding commandWire stampedWire
     command u e =
         let w = command-was 1 b u e in
-        ap (λ (x : Body). withRun s (runOf x) (bytes (stamp (u .timestamp) (u .«relay_id»)))) (w .body-is)
-        ∙ sealed-by (u .timestamp) (u .«relay_id») (eqb (length b - 8) 0) (w .least) refl (command-again 1 b u bs e)
+        ap (λ (y : Body). headedBy (stamp (u .timestamp) (u .«relay_id»)) (bodyWire false (framed s x) y)) (w .body-is)
+        ∙ sealed-by false (u .timestamp) (u .«relay_id») (eqb (length b - 8) 0) (w .least) refl (command-again 1 b u bs e)
 
     abbrev clearedBody : PayloadType → List ℕ
     clearedBody Uplink = set b 3 (getD b 3 0 % 64)
@@ -190,31 +191,31 @@ module _ (s : List ℕ) (least : 5 ≤ length s) where
     clearedBody Event = b
     clearedBody Command = b
 
-    of-up : (r : UplinkRead) (q : Payload) → uplinkAt 1 b ≡ r → ofUplink r ≡ PayloadIs q → payloadWire s q ≡ bytes (clearedBody Uplink)
+    of-up : (r : UplinkRead) (q : Payload) → uplinkAt 1 b ≡ r → ofUplink r ≡ PayloadIs q → payloadWire (framed s x) q ≡ bytes (clearedBody Uplink)
     unfolding payloadWire
-    of-up (NoUplink k) q e x = let z : _≡_ {A = ℕ} 0 1 = cc in absurd (omega arith)
-    of-up (UplinkIs u) q e x = let y : AnUplink u ≡ q = cc in rw (← y) (up u e)
+    of-up (NoUplink k) q e y2 = let z : _≡_ {A = ℕ} 0 1 = cc in absurd (omega arith)
+    of-up (UplinkIs u) q e y2 = let y : AnUplink u ≡ q = cc in rw (← y) (up u e)
 
-    of-down : (r : DownlinkRead) (q : Payload) → downlinkAt 1 b ≡ r → ofDownlink r ≡ PayloadIs q → payloadWire s q ≡ bytes b
+    of-down : (r : DownlinkRead) (q : Payload) → downlinkAt 1 b ≡ r → ofDownlink r ≡ PayloadIs q → payloadWire (framed s x) q ≡ bytes b
     unfolding payloadWire
-    of-down (NoDownlink k) q e x = let z : _≡_ {A = ℕ} 0 1 = cc in absurd (omega arith)
-    of-down (DownlinkIs u) q e x = let y : ADownlink u ≡ q = cc in rw (← y) (down u e)
+    of-down (NoDownlink k) q e y2 = let z : _≡_ {A = ℕ} 0 1 = cc in absurd (omega arith)
+    of-down (DownlinkIs u) q e y2 = let y : ADownlink u ≡ q = cc in rw (← y) (down u e)
 
-    of-event : (r : EventRead) (q : Payload) → eventAt 1 b ≡ r → ofEvent r ≡ PayloadIs q → payloadWire s q ≡ bytes b
+    of-event : (r : EventRead) (q : Payload) → eventAt 1 b ≡ r → ofEvent r ≡ PayloadIs q → payloadWire (framed s x) q ≡ bytes b
     unfolding payloadWire
-    of-event (NoEvent k) q e x = let z : _≡_ {A = ℕ} 0 1 = cc in absurd (omega arith)
-    of-event (EventIs u) q e x = let y : AnEvent u ≡ q = cc in rw (← y) (event u e)
+    of-event (NoEvent k) q e y2 = let z : _≡_ {A = ℕ} 0 1 = cc in absurd (omega arith)
+    of-event (EventIs u) q e y2 = let y : AnEvent u ≡ q = cc in rw (← y) (event u e)
 
-    of-command : (r : CommandRead) (q : Payload) → commandAt 1 b ≡ r → ofCommand r ≡ PayloadIs q → payloadWire s q ≡ bytes b
+    of-command : (r : CommandRead) (q : Payload) → commandAt 1 b ≡ r → ofCommand r ≡ PayloadIs q → payloadWire (framed s x) q ≡ bytes b
     unfolding payloadWire
-    of-command (NoCommand k) q e x = let z : _≡_ {A = ℕ} 0 1 = cc in absurd (omega arith)
-    of-command (CommandIs u) q e x = let y : ACommand u ≡ q = cc in rw (← y) (command u e)
+    of-command (NoCommand k) q e y2 = let z : _≡_ {A = ℕ} 0 1 = cc in absurd (omega arith)
+    of-command (CommandIs u) q e y2 = let y : ACommand u ≡ q = cc in rw (← y) (command u e)
 
     least-up : (r : UplinkRead) (q : Payload) → uplinkAt 1 b ≡ r → ofUplink r ≡ PayloadIs q → 4 ≤ length b
-    least-up (NoUplink k) q e x = let z : _≡_ {A = ℕ} 0 1 = cc in absurd (omega arith)
-    least-up (UplinkIs u) q e x = let w = uplink-was 1 b u e in omega arith
+    least-up (NoUplink k) q e y2 = let z : _≡_ {A = ℕ} 0 1 = cc in absurd (omega arith)
+    least-up (UplinkIs u) q e y2 = let w = uplink-was 1 b u e in omega arith
 
-    body-again : (t : PayloadType) (q : Payload) → payloadAt t b ≡ PayloadIs q → payloadWire s q ≡ bytes (clearedBody t)
+    body-again : (t : PayloadType) (q : Payload) → payloadAt t b ≡ PayloadIs q → payloadWire (framed s x) q ≡ bytes (clearedBody t)
     unfolding payloadAt
     body-again Uplink q e = of-up (uplinkAt 1 b) q refl e
     body-again Downlink q e = of-down (downlinkAt 1 b) q refl e
@@ -241,13 +242,13 @@ module _ (s : List ℕ) (least : 5 ≤ length s) where
     cleared-is Event q p e = simp (ne-eqb (getD s 0 0 / 8 % 4) 0 (λ z. omega arith)) whole
     cleared-is Command q p e = simp (ne-eqb (getD s 0 0 / 8 % 4) 0 (λ z. omega arith)) whole
 
--- the same bytes, but for an uplink's two ignored bits
-pub again : (s : List ℕ) (p : MeshPacket) → Bytes s → meshOf s ≡ Mesh p → meshFrame s p ≡ bytes (cleared s)
-again s p h e =
+-- the same bytes, but for an uplink's two ignored bits, whatever else is lent
+pub again : (s : List ℕ) (x : Lists) (p : MeshPacket) → Bytes s → meshOf s ≡ Mesh p → meshFrame (framed s x) p ≡ bytes (cleared s)
+again s x p h e =
     let r = was-read s p e in
     let t = p .mhdr .«payload_type» in
     let bs : Bytes (bodyIn s) = body-bytes s h in
     let k = kind-is (getD s 0 0) (p .mhdr) (r .header) in
-    let n = cleared-length s (r .least) bs t ∙ body-length s (r .least) in
-    read-written s p (clearedBody s (r .least) bs t) h e (body-again s (r .least) bs t (p .payload) (r .body)) n
-    ∙ ap bytes (cleared-is s (r .least) bs t (p .payload) (r .body) k)
+    let n = cleared-length s (r .least) bs x t ∙ body-length s (r .least) in
+    read-written s x p (clearedBody s (r .least) bs x t) h e (body-again s (r .least) bs x t (p .payload) (r .body)) n
+    ∙ ap bytes (cleared-is s (r .least) bs x t (p .payload) (r .body) k)

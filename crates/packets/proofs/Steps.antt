@@ -9,6 +9,7 @@ use Rattle.base.specs.declared.Written.the-variants.{Refused}
 use Rattle.fields.specs.Header.{headerByte}
 use Rattle.fields.specs.declared.header.HeaderByte.{HeaderByte}
 use Rattle.fields.specs.declared.header.HeaderByte.the-variants.{Byte, Refused as NoByte}
+use Rattle.bodies.specs.Body.{Lent}
 use Rattle.wire.specs.Run.{runRefusal, runBytes}
 use Rattle.wire.specs.declared.run.Run.{Run}
 use Rattle.payloads.specs.Write.{prefixed, withMic}
@@ -17,12 +18,12 @@ use Rattle.packets.specs.Write.{behind, payloadWire, messageOf, meshFram
 use Rattle.packets.specs.declared.mesh.MeshPacket.{MeshPacket}
 
 -- 6 and 7
-pub header-refused : (n : ℕ) (s : List ℕ) (p : MeshPacket) (o : List ℕ) → NoByte n ≡ headerByte (p .mhdr) → Outcome (Refused n) o (meshFrame s p) o
+pub header-refused : (n : ℕ) (s : Lent) (p : MeshPacket) (o : List ℕ) → NoByte n ≡ headerByte (p .mhdr) → Outcome (Refused n) o (meshFrame s p) o
 unfolding meshFrame messageOf withMic answerOf outOf
 header-refused n s p o e = rw (← e) (refl, refl)
 
 -- and otherwise what stands behind the byte
-pub header-byte : (b : ℕ) (s : List ℕ) (p : MeshPacket) (f : Frame) → Byte b ≡ headerByte (p .mhdr) → payloadWire s (p .payload) ≡ f
+pub header-byte : (b : ℕ) (s : Lent) (p : MeshPacket) (f : Frame) → Byte b ≡ headerByte (p .mhdr) → payloadWire s (p .payload) ≡ f
     → meshFrame s p ≡ withMic (p .«has_mic») (p .mic) (prefixed b f)
 unfolding meshFrame messageOf
 header-byte b s p f e q = ap₂ (λ (x : HeaderByte) (y : Frame). withMic (p .«has_mic») (p .mic) (behind x y)) (sym e) q

@@ -20,6 +20,7 @@ use Rattle.fields.specs.declared.header.HeaderByte.{HeaderByte}
 use Rattle.fields.specs.declared.header.HeaderByte.the-variants.{Byte, Refused as NoByte}
 use Rattle.fields.proofs.Laws.Header.{header-back}
 use Rattle.payloads.specs.Read.{fourAt}
+use Rattle.bodies.specs.Body.{Lent}
 use Rattle.payloads.specs.Write.{prefixed, withMic}
 use Rattle.packets.specs.Read.{bodyIn, payloadAt, withPayload, withHeader, meshOf}
 use Rattle.packets.specs.Write.{payloadWire, behind, messageOf, meshFrame}
@@ -72,7 +73,7 @@ module _ (b m : ℕ) (body : List ℕ) (fits : length body ≤ 8187) (small : m 
       ∙ read-as frame h m (payloadAt (h .«payload_type») body) the-mic)
 
 -- what a frame that was written is made of
-pub record Made (s : List ℕ) (p : MeshPacket) (w : List ℕ) : Type 0 where
+pub record Made (s : Lent) (p : MeshPacket) (w : List ℕ) : Type 0 where
   pub byte : ℕ
   pub body : List ℕ
   pub header : headerByte (p .mhdr) ≡ Byte byte
@@ -87,7 +88,7 @@ never n w e = let z : _≡_ {A = ℕ} 0 1 = cc in omega arith
 same-bytes : (v w : List ℕ) → bytes v ≡ bytes w → v ≡ w
 same-bytes v w e = cc
 
-module _ (s : List ℕ) (p : MeshPacket) (w : List ℕ) where
+module _ (s : Lent) (p : MeshPacket) (w : List ℕ) where
   fitting : (b : ℕ) (v : List ℕ) → headerByte (p .mhdr) ≡ Byte b → payloadWire s (p .payload) ≡ bytes v → p .«has_mic» ≡ true
       → (t : Bool) → ltb 8188 (length (b ∷ v)) ≡ t → pick t (refused 5) (bytes ((b ∷ v) ++ beBytes 4 (p .mic))) ≡ bytes w → Made s p w
   fitting b v h f m true q e = absurd (never 5 w e)

@@ -6,6 +6,8 @@ use lib.Dec.{ltb, eqb}
 use lib.ListN.{length, getD, set}
 use Rattle.base.specs.Pick.{pick}
 use Rattle.base.specs.Numbers.{frameEmpty, frameShort, notMesh, bodyShort, frameLong}
+use Rattle.composed.specs.Composed.{Lists}
+use Rattle.bodies.specs.Body.{Lent}
 use Rattle.packets.specs.declared.mesh.MeshRead.{MeshRead}
 use Rattle.packets.specs.declared.mesh.MeshRead.the-variants.{Mesh, Refused}
 
@@ -28,3 +30,7 @@ meshNumber (Refused n) = n
 -- a frame with an uplink's two ignored bits as 0: byte 4 of it is the snr byte
 unfoldable pub cleared : List ℕ → List ℕ
 cleared s = pick (eqb (getD s 0 0 / 8 % 4) 0) (set s 4 (getD s 4 0 % 64)) s
+
+-- a frame, and whatever else is lent with it
+abbrev pub framed : List ℕ → Lists → Lent
+framed s x = record { frame = s; lists = x }

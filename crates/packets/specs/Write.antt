@@ -1,4 +1,4 @@
--- Frames written: the bytes, or the first refusal in the order 6, 7, 45, body fields, 27, 5; 21 comes after, with the lent output.
+-- Frames written: the bytes, or the first refusal in the order 6, 7, 45, body fields, 19, 20, 27, 5; 21 comes after, with the lent output.
 -- Assumes nothing.
 use Prim.Native.Nat.{ℕ}
 use mathlib.Core.List.{List}
@@ -13,6 +13,7 @@ use Rattle.fields.specs.declared.header.MHDR.{MHDR}
 use Rattle.fields.specs.declared.header.HeaderByte.{HeaderByte}
 use Rattle.fields.specs.declared.header.HeaderByte.the-variants.{Byte, Refused as NoByte}
 use Rattle.wire.specs.Run.{runRefusal, runBytes}
+use Rattle.bodies.specs.Body.{Lent}
 use Rattle.payloads.specs.Write.{prefixed, withMic, uplinkWire, downlinkWire}
 use Rattle.events.specs.Write.{eventWire, commandWire}
 use Rattle.wire.specs.declared.run.Run.{Run}
@@ -22,28 +23,28 @@ use Rattle.packets.specs.declared.mesh.MeshPacket.{MeshPacket}
 use Rattle.packets.specs.declared.any.Packet.{Packet}
 use Rattle.packets.specs.declared.any.Packet.the-variants.{Mesh, Lora}
 
--- the body; the payload's runs lie in s
-unfoldable pub payloadWire : List ℕ → Payload → Frame
-payloadWire s (Uplink p) = uplinkWire s p
-payloadWire s (Downlink p) = downlinkWire s p
-payloadWire s (Event p) = eventWire s p
-payloadWire s (Command p) = commandWire s p
+-- the body; what is lent holds its payload
+unfoldable pub payloadWire : Lent → Payload → Frame
+payloadWire l (Uplink p) = uplinkWire (l .frame) p
+payloadWire l (Downlink p) = downlinkWire (l .frame) p
+payloadWire l (Event p) = eventWire l p
+payloadWire l (Command p) = commandWire l p
 
 abbrev pub behind : HeaderByte → Frame → Frame
 behind (NoByte n) f = refused n
 behind (Byte b) f = prefixed b f
 
 -- header byte and body: what is signed, and what stands before the MIC
-unfoldable pub messageOf : List ℕ → MeshPacket → Frame
-messageOf s p = behind (headerByte (p .mhdr)) (payloadWire s (p .payload))
+unfoldable pub messageOf : Lent → MeshPacket → Frame
+messageOf l p = behind (headerByte (p .mhdr)) (payloadWire l (p .payload))
 
-unfoldable pub meshFrame : List ℕ → MeshPacket → Frame
-meshFrame s p = withMic (p .«has_mic») (p .mic) (messageOf s p)
+unfoldable pub meshFrame : Lent → MeshPacket → Frame
+meshFrame l p = withMic (p .«has_mic») (p .mic) (messageOf l p)
 
 -- a LoRa frame is its bytes; of no bytes, no bytes
 unfoldable pub loraFrame : List ℕ → Run → Frame
 loraFrame s r = unlessRefused (runRefusal (length s) r) (pick (ltb 8192 (r .len)) (refused frameLong) (bytes (runBytes s r)))
 
-unfoldable pub packetFrame : List ℕ → Packet → Frame
-packetFrame s (Mesh p) = meshFrame s p
-packetFrame s (Lora r) = loraFrame s r
+unfoldable pub packetFrame : Lent → Packet → Frame
+packetFrame l (Mesh p) = meshFrame l p
+packetFrame l (Lora r) = loraFrame (l .frame) r

@@ -1,6 +1,7 @@
 // Any frame: a mesh frame where the first three bits are 111, and otherwise a LoRa frame, which is kept as it is.
 ghost use mathlib.Core.Path.{_≡_};
 ghost use Rattle.base.specs.Answers.{answerOf, outOf};
+ghost use Rattle.bodies.specs.Body.{lent};
 ghost use Rattle.packets.specs.Read.{packetOf};
 ghost use Rattle.packets.specs.Write.{loraFrame, packetFrame};
 use crate::mesh::MeshPacket;
@@ -58,13 +59,23 @@ impl Packet {
         PacketRead::Packet(Packet::Lora(Run { start: 0, len: n }))
     }
 
-    pub fn write(self, src: &[u8], out: &mut [u8]) -> Written
-        ensures answer { λ r. ⌜ r ≡ answerOf (packetFrame (now (src .entry)) self) (now (out .entry)) ⌝ }
-        ensures bytes { λ _. ⌜ now (out .exit) ≡ outOf (packetFrame (now (src .entry)) self) (now (out .entry)) ⌝ }
+    pub fn write<'a>(
+        self,
+        frame: &'a [u8],
+        work: &'a [u8],
+        kinds: &[[u8; 2]],
+        spans: &[[u32; 2]],
+        ids: &[u32],
+        rssis: &[i16],
+        snrs: &[i8],
+        out: &mut [u8],
+    ) -> Written
+        ensures answer { λ r. ⌜ r ≡ answerOf (packetFrame (lent (now (frame .entry)) (now (work .entry)) (now (kinds .entry)) (now (spans .entry)) (now (ids .entry)) (now (rssis .entry)) (now (snrs .entry))) self) (now (out .entry)) ⌝ }
+        ensures bytes { λ _. ⌜ now (out .exit) ≡ outOf (packetFrame (lent (now (frame .entry)) (now (work .entry)) (now (kinds .entry)) (now (spans .entry)) (now (ids .entry)) (now (rssis .entry)) (now (snrs .entry))) self) (now (out .entry)) ⌝ }
     {
         match self {
-            Packet::Mesh(p) => p.write(src, out),
-            Packet::Lora(run) => write_lora(run, src, out),
+            Packet::Mesh(p) => p.write(frame, work, kinds, spans, ids, rssis, snrs, out),
+            Packet::Lora(run) => write_lora(run, frame, out),
         }
     }
 }

@@ -4,6 +4,7 @@ mod mesh;
 
 pub use any::Packet;
 pub use any::PacketRead;
+pub use mesh::MeshOpened;
 pub use mesh::MeshPacket;
 pub use mesh::MeshRead;
 pub use mesh::Payload;

@@ -35,6 +35,15 @@ pub put-length : (o : List ℕ) (at : ℕ) (v : List ℕ) → length (put o at v
 unfolding put
 put-length o at v = kept o at v (leb (at + length v) (length o)) refl
 
+-- and neither does nothing
+pub put-nil : (o : List ℕ) (at : ℕ) → o ≡ put o at []
+unfolding put
+put-nil o at = by (leb (at + 0) (length o))
+  where
+    by : (t : Bool) → o ≡ pick t (laid o at []) o
+    by true = paste-zero o at []
+    by false = refl
+
 -- what a writer leaves, where there is room, is its bytes put at the front
 pub put-front : (o w : List ℕ) → length w ≤ length o → put o 0 w ≡ outOf (bytes w) o
 put-front o w h =
@@ -77,8 +86,7 @@ pub record Joining (o : List ℕ) (at : ℕ) (w : List ℕ) (out : List ℕ) (n 
 
 pub joining-none : (o : List ℕ) (at : ℕ) (w : List ℕ) → at + length w ≤ length o → Joining o at w o 0 w
 joining-none o at w h =
-    let a : at + 0 ≤ length o = omega arith in
-    record { front = []; whole = refl; long = refl; fits = h; sofar = sym (put-fits o at [] a ∙ sym (paste-zero o at [])) }
+    record { front = []; whole = refl; long = refl; fits = h; sofar = put-nil o at }
 
 module _ (o : List ℕ) (at : ℕ) (w out : List ℕ) (n : ℕ) (rest : List ℕ) (j : Joining o at w out n rest) where
   pub joining-room : at + n + length rest ≤ length o

@@ -1,0 +1,108 @@
+// A body's payload as it is written: its first refusal, its length and its bytes.
+ghost use mathlib.Core.Path.{_≡_};
+ghost use lib.ListN.{length};
+ghost use Rattle.wire.specs.Lay.{put};
+ghost use Rattle.composed.specs.Composed.{capped};
+ghost use Rattle.bodies.specs.Body.{lent, bodyRefusal, bodyBytes};
+use crate::body::Body;
+use crate::body::held_in;
+use composed::put_composed;
+use composed::verdict;
+use items::count_items;
+use kept::put_kept;
+use wire::put_all;
+
+fn cap(n: usize) -> usize
+    ensures { λ r. ⌜ r ≡ capped n ⌝ }
+{
+    if 8192 < n { 8193 } else { n }
+}
+
+impl Body {
+    // 45, the first bad path entry, 19 or 20, and otherwise 0.
+    pub fn refusal<'a>(
+        self,
+        is_event: bool,
+        frame: &'a [u8],
+        work: &'a [u8],
+        kinds: &[[u8; 2]],
+        spans: &[[u32; 2]],
+        ids: &[u32],
+        rssis: &[i16],
+        snrs: &[i8],
+    ) -> u8
+        ensures { λ r. ⌜ r ≡ bodyRefusal «is_event» (lent (now (frame .entry)) (now (work .entry)) (now (kinds .entry)) (now (spans .entry)) (now (ids .entry)) (now (rssis .entry)) (now (snrs .entry))) self ⌝ }
+    {
+        match self {
+            Body::Empty => 0,
+            Body::Sealed(run) => run.refusal(frame.len()),
+            Body::Open { held, run } => run.refusal(held_in(held, frame, work).len()),
+            Body::Items(n) => verdict(is_event, n, kinds, spans, ids, rssis, snrs, work),
+        }
+    }
+
+    // How many bytes; 8,193 stands for any more than 8,192.
+    pub fn size<'a>(
+        self,
+        is_event: bool,
+        frame: &'a [u8],
+        work: &'a [u8],
+        kinds: &[[u8; 2]],
+        spans: &[[u32; 2]],
+        ids: &[u32],
+        rssis: &[i16],
+        snrs: &[i8],
+    ) -> usize
+        ensures { λ r. ⌜ r ≡ capped (length (bodyBytes «is_event» (lent (now (frame .entry)) (now (work .entry)) (now (kinds .entry)) (now (spans .entry)) (now (ids .entry)) (now (rssis .entry)) (now (snrs .entry))) self)) ⌝ }
+    {
+        match self {
+            Body::Empty => 0,
+            Body::Sealed(run) => cap(run.bytes(frame).len()),
+            Body::Open { held, run } => {
+                let told = count_items(run.bytes(held_in(held, frame, work)), is_event);
+                cap(told.kept_bytes)
+            }
+            Body::Items(n) => composed::size(is_event, n, kinds, spans, ids, rssis, snrs, work),
+        }
+    }
+
+    // The bytes at a place, where they fit.
+    pub fn put<'a>(
+        self,
+        is_event: bool,
+        frame: &'a [u8],
+        work: &'a [u8],
+        kinds: &[[u8; 2]],
+        spans: &[[u32; 2]],
+        ids: &[u32],
+        rssis: &[i16],
+        snrs: &[i8],
+        out: &mut [u8],
+        at: usize,
+    )
+        ensures { λ _. ⌜ now (out .exit) ≡ put (now (out .entry)) at (bodyBytes «is_event» (lent (now (frame .entry)) (now (work .entry)) (now (kinds .entry)) (now (spans .entry)) (now (ids .entry)) (now (rssis .entry)) (now (snrs .entry))) self) ⌝ }
+    {
+        match self {
+            Body::Empty => {}
+            Body::Sealed(run) => put_all(run.bytes(frame), out, at),
+            Body::Open { held, run } => put_kept(
+                is_event,
+                run.bytes(held_in(held, frame, work)),
+                out,
+                at,
+            ),
+            Body::Items(n) => put_composed(
+                is_event,
+                n,
+                kinds,
+                spans,
+                ids,
+                rssis,
+                snrs,
+                work,
+                out,
+                at,
+            ),
+        }
+    }
+}

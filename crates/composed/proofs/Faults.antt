@@ -1,0 +1,94 @@
+-- One item in each pass, the passes one after another, and the sum's answer, on plain values. Assumes nothing.
+use Prim.Native.Nat.{ℕ, zero, suc, _<_, _≤_}
+use native.Mathlib.Omega.{arith}
+use mathlib.Core.Bool.{Bool, true, false}
+use mathlib.Core.Path.{_≡_, refl, sym, ap, ap₂, _∙_}
+use lib.Dec.{ltb}
+use borrow.Author.Tests.{lt-ltb, le-ltb, eq-eqb, ne-eqb, ltb-true, ltb-false}
+use Rattle.base.specs.Pick.{pick}
+use Rattle.base.specs.Lists.{orElse, firstOf}
+use Rattle.base.specs.Numbers.{itemLong, heartbeatLength, outside, itemMost, pathMost}
+use Rattle.wire.specs.Run.{runRefusal}
+use Rattle.wire.specs.declared.run.Run.{Run}
+use Rattle.fields.specs.Path.{badEntry}
+use Rattle.items.specs.Items.{badBeat}
+use Rattle.composed.specs.Composed.{Lists, paths, pathRun, isPath, itemCount, itemsIn, outsideOf, badPath, longOf, unevenOf, verdictOf, capped}
+use Rattle.composed.specs.Passes.{runAt, reachFor, faultOf, totalOf}
+use Rattle.composed.specs.declared.Composed.{Composed}
+use Rattle.composed.specs.declared.Total.the-variants.{Sum, Over}
+
+-- ---- one item
+
+module _ (ev : Bool) (l : Lists) (it : Composed) (pass : ℕ) (b : Bool) (eb : b ≡ isPath ev it) where
+  pub place-fault : pass ≡ 0 → (k r : ℕ) (run : Run) → k ≡ reachFor b l → run ≡ runAt (it .place) (it .len) → r ≡ runRefusal k run
+      → r ≡ faultOf pass ev l it
+  unfolding faultOf outsideOf
+  place-fault p k r run ek er q = rw (eq-eqb pass 0 p) (q ∙ ap₂ runRefusal (ek ∙ ap (λ (x : Bool). reachFor x l) eb) er)
+
+  module _ (p0 : pass ≡ 0 → ⊥) where
+    pub path-fault : pass ≡ 1 → b ≡ true → (r : ℕ) → r ≡ firstOf badEntry (pathRun (paths (l .ids) (l .rssis) (l .snrs)) (it .place) (it .len))
+        → r ≡ faultOf pass ev l it
+    unfolding faultOf badPath pathRun
+    path-fault p t r q = rw (ne-eqb pass 0 p0, eq-eqb pass 1 p, sym eb ∙ t) q
+
+    pub no-path : pass ≡ 1 → b ≡ false → 0 ≡ faultOf pass ev l it
+    unfolding faultOf badPath
+    no-path p t = rw (ne-eqb pass 0 p0, eq-eqb pass 1 p, sym eb ∙ t)
+
+    module _ (p1 : pass ≡ 1 → ⊥) where
+      pub long-fault : pass ≡ 2 → (r : ℕ) → r ≡ pick (ltb (pick b pathMost itemMost) (it .len)) itemLong 0 → r ≡ faultOf pass ev l it
+      unfolding faultOf longOf
+      long-fault p r q = rw (ne-eqb pass 0 p0, ne-eqb pass 1 p1, eq-eqb pass 2 p) (q ∙ ap (λ (x : Bool). pick (ltb (pick x pathMost itemMost) (it .len)) itemLong 0) eb)
+
+      pub uneven-fault : (pass ≡ 2 → ⊥) → (r : ℕ) → r ≡ pick b 0 (pick (badBeat ev (it .tag) (it .len)) heartbeatLength 0) → r ≡ faultOf pass ev l it
+      unfolding faultOf unevenOf
+      uneven-fault p r q = rw (ne-eqb pass 0 p0, ne-eqb pass 1 p1, ne-eqb pass 2 p) (q ∙ ap (λ (x : Bool). pick x 0 (pick (badBeat ev (it .tag) (it .len)) heartbeatLength 0)) eb)
+
+-- ---- pass by pass
+
+pub or-stop : (a b r : ℕ) → r ≡ a → (r ≡ 0 → ⊥) → r ≡ orElse a b
+or-stop zero b r e h = absurd (h e)
+or-stop (suc a) b r e h = e
+
+pub or-next : (a b r s : ℕ) → r ≡ a → r ≡ 0 → s ≡ b → s ≡ orElse a b
+or-next a b r s e z q = rw (sym e ∙ z) q
+
+module _ (ev : Bool) (l : Lists) (n : ℕ) where
+  pub few : itemCount l < n → outside ≡ verdictOf ev l n
+  unfolding verdictOf
+  few h = simp (lt-ltb (itemCount l) n h)
+
+  pub by-pass : n ≤ itemCount l → (r : ℕ)
+      → r ≡ orElse (firstOf (faultOf 0 ev l) (itemsIn l n)) (orElse (firstOf (faultOf 1 ev l) (itemsIn l n)) (orElse (firstOf (faultOf 2 ev l) (itemsIn l n)) (firstOf (faultOf 3 ev l) (itemsIn l n))))
+      → r ≡ verdictOf ev l n
+  unfolding verdictOf faultOf
+  by-pass h r e = simp (le-ltb (itemCount l) n h) e
+
+-- ---- the sum
+
+pub sum-told : (n m : ℕ) → totalOf 8192 n ≡ Sum m → m ≡ capped n
+unfolding totalOf
+sum-told n m e = go (ltb 8192 n) e
+  where
+    go : (t : Bool) → pick t Over (Sum n) ≡ Sum m → m ≡ pick t 8193 n
+    go true q = absurd (let z : _≡_ {A = ℕ} 0 1 = cc in omega arith)
+    go false q = cc
+
+pub over-told : (most n : ℕ) → totalOf most n ≡ Over → most < n
+unfolding totalOf
+over-told most n e = go (ltb most n) refl e
+  where
+    go : (t : Bool) → ltb most n ≡ t → pick t Over (Sum n) ≡ Over → most < n
+    go true p q = ltb-true most n p
+    go false p q = absurd (let z : _≡_ {A = ℕ} 0 1 = cc in omega arith)
+
+pub within-told : (most n m : ℕ) → totalOf most n ≡ Sum m → n ≤ most
+unfolding totalOf
+within-told most n m e = go (ltb most n) refl e
+  where
+    go : (t : Bool) → ltb most n ≡ t → pick t Over (Sum n) ≡ Sum m → n ≤ most
+    go true p q = absurd (let z : _≡_ {A = ℕ} 0 1 = cc in omega arith)
+    go false p q = ltb-false most n p
+
+pub over-capped : (n : ℕ) → totalOf 8192 n ≡ Over → 8193 ≡ capped n
+over-capped n e = simp (lt-ltb 8192 n (over-told 8192 n e))

@@ -1,0 +1,130 @@
+-- Laws of composed items: none of them, what a verdict of 0 says of each, and a size that is capped. Assumes nothing.
+use Prim.Native.Nat.{ℕ, zero, suc, _<_, _≤_, min}
+use native.Mathlib.Nat.{le-of-suc-le-suc, not-suc-le-zero}
+use native.Mathlib.Omega.{arith}
+use mathlib.Core.Bool.{Bool, true, false}
+use mathlib.Core.Path.{_≡_, refl, sym, ap, _∙_}
+use mathlib.Core.List.{List, [], _∷_}
+use lib.Dec.{ltb}
+use lib.ListN.{length, getD}
+use borrow.Author.Tests.{le-ltb, ltb-true, ltb-false}
+use Rattle.base.specs.Pick.{pick}
+use Rattle.base.specs.Numbers.{itemLong, outside, itemMost, pathMost}
+use Rattle.base.specs.Lists.{from, imap, orElse, firstOf, joined}
+use Rattle.base.proofs.Lists.{from-length, from-get, imap-length}
+use Rattle.base.proofs.First.{passed}
+use Rattle.wire.specs.Part.{partOf}
+use Rattle.fields.specs.Path.{sixOf}
+use Rattle.items.specs.Items.{isBeat}
+use Rattle.kept.specs.Kept.{fixed}
+use Rattle.composed.specs.Composed.{Lists, pathCount, pathRun, itemCount, itemIn, itemsIn, isPath, outsideOf, badPath, longOf, unevenOf, verdictOf, valueOf, composedBytes, capped}
+use Rattle.composed.specs.declared.Composed.{Composed}
+use Rattle.composed.proofs.Runs.{held-le, part-length, path-length}
+
+-- ---- no items
+
+module _ (ev : Bool) (l : Lists) where
+  no-items : itemsIn l 0 ≡ []
+  no-items = let e : min 0 (itemCount l) ≡ 0 = omega arith in ap (λ (n : ℕ). from n 0 (itemIn l)) e
+
+  pub none-composed : (verdictOf ev l 0 ≡ 0) × (composedBytes ev l 0 ≡ [])
+  unfolding verdictOf composedBytes firstOf joined
+  none-composed = (rw (no-items, le-ltb (itemCount l) 0 (omega arith)), rw no-items)
+
+-- ---- a verdict of 0
+
+or-zero : (a b : ℕ) → orElse a b ≡ 0 → (a ≡ 0) × (b ≡ 0)
+or-zero zero b e = (refl, e)
+or-zero (suc a) b e = absurd (omega arith)
+
+none-of : {A : Type 0} (f : A → ℕ) (xs : List A) (z : A) → firstOf f xs ≡ 0 → (i : ℕ) → i < length xs → f (getD xs i z) ≡ 0
+unfolding firstOf
+none-of f [] z e i h = absurd (not-suc-le-zero h)
+none-of f (x ∷ xs) z e zero h = or-zero (f x) (firstOf f xs) e .0
+none-of f (x ∷ xs) z e (suc i) h = none-of f xs z (or-zero (f x) (firstOf f xs) e .1) i (le-of-suc-le-suc h)
+
+-- no pass finds anything in an item
+pub record Fine (ev : Bool) (l : Lists) (it : Composed) : Type 0 where
+  pub lies-inside : outsideOf ev l it ≡ 0
+  pub good-path : badPath ev l it ≡ 0
+  pub not-long : longOf ev it ≡ 0
+  pub not-uneven : unevenOf ev it ≡ 0
+
+module _ (ev : Bool) (l : Lists) (n : ℕ) (e : verdictOf ev l n ≡ 0) where
+  parts : (pick (ltb (itemCount l) n) outside 0 ≡ 0) × (firstOf (outsideOf ev l) (itemsIn l n) ≡ 0) × (firstOf (badPath ev l) (itemsIn l n) ≡ 0)
+      × (firstOf (longOf ev) (itemsIn l n) ≡ 0) × (firstOf (unevenOf ev) (itemsIn l n) ≡ 0)
+  unfolding verdictOf
+  parts =
+      let a = or-zero _ _ e in
+      let b = or-zero _ _ (a .1) in
+      let c = or-zero _ _ (b .1) in
+      let d = or-zero _ _ (c .1) in
+      (a .0, b .0, c .0, d .0, d .1)
+
+  -- all n of them are there
+  pub there : n ≤ itemCount l
+  there = ltb-false (itemCount l) n (passed (ltb (itemCount l) n) 44 0 (parts .0) .0)
+
+  the-item : (i : ℕ) → i < n → getD (itemsIn l n) i (itemIn l i) ≡ itemIn l i
+  the-item i h = let t = there in from-get (min n (itemCount l)) (itemIn l) (itemIn l i) i (omega arith)
+
+  zero-at : (f : Composed → ℕ) → firstOf f (itemsIn l n) ≡ 0 → (i : ℕ) → i < n → f (itemIn l i) ≡ 0
+  zero-at f z i h =
+      let t = there in
+      let k = from-length (min n (itemCount l)) 0 (itemIn l) in
+      sym (ap f (the-item i h)) ∙ none-of f (itemsIn l n) (itemIn l i) z i (omega arith)
+
+  pub all-fine : (i : ℕ) → i < n → Fine ev l (itemIn l i)
+  all-fine i h =
+      record {
+        lies-inside = zero-at (outsideOf ev l) (parts .1) i h;
+        good-path = zero-at (badPath ev l) (parts .2) i h;
+        not-long = zero-at (longOf ev) (parts .3) i h;
+        not-uneven = zero-at (unevenOf ev) (parts .4) i h;
+      }
+
+-- what is not too long has a value of at most 255 bytes, so that its length byte is its length
+module _ (ev : Bool) (l : Lists) (it : Composed) where
+  short : (t : Bool) → pick (ltb (pick t pathMost itemMost) (it .len)) itemLong 0 ≡ 0
+      → length (pick t (joined sixOf (pathRun l (it .place) (it .len))) (imap (fixed (isBeat ev (it .tag))) 0 (partOf (l .src) (it .place) (it .len)))) ≤ 255
+  short true e =
+      let h : it .len ≤ 42 = ltb-false 42 (it .len) (passed (ltb 42 (it .len)) 18 0 e .0) in
+      let a = path-length l (it .place) (it .len) in
+      let b = held-le (pathCount l) (it .place) (it .len) in
+      omega arith
+  short false e =
+      let h : it .len ≤ 255 = ltb-false 255 (it .len) (passed (ltb 255 (it .len)) 18 0 e .0) in
+      let a = imap-length (fixed (isBeat ev (it .tag))) 0 (partOf (l .src) (it .place) (it .len)) in
+      let b = part-length (l .src) (it .place) (it .len) in
+      let c = held-le (length (l .src)) (it .place) (it .len) in
+      omega arith
+
+  pub value-short : longOf ev it ≡ 0 → length (valueOf ev l it) ≤ 255
+  unfolding longOf valueOf
+  value-short e = short (isPath ev it) e
+
+-- ---- a size that is capped
+
+pub capped-is : (n : ℕ) → n ≤ 8192 → capped n ≡ n
+capped-is n h = simp (le-ltb 8192 n h)
+
+pub capped-small : (n : ℕ) → capped n ≤ 8192 → n ≤ 8192
+capped-small n h = go (ltb 8192 n) refl h
+  where
+    go : (t : Bool) → ltb 8192 n ≡ t → pick t 8193 n ≤ 8192 → n ≤ 8192
+    go true e k = absurd (omega arith)
+    go false e k = ltb-false 8192 n e
+
+pub capped-large : (n : ℕ) → 8192 < capped n → 8192 < n
+capped-large n h = go (ltb 8192 n) refl h
+  where
+    go : (t : Bool) → ltb 8192 n ≡ t → 8192 < pick t 8193 n → 8192 < n
+    go true e k = ltb-true 8192 n e
+    go false e k = k
+
+pub capped-most : (n : ℕ) → capped n ≤ 8193
+capped-most n = go (ltb 8192 n) refl
+  where
+    go : (t : Bool) → ltb 8192 n ≡ t → pick t 8193 n ≤ 8193
+    go true e = omega arith
+    go false e = let h = ltb-false 8192 n e in omega arith

@@ -1,0 +1,222 @@
+-- The loops over a path's entries and over the items, on plain values. Assumes nothing.
+use Prim.Native.Nat.{ℕ, _+_, _-_, _*_, _%_, _<_, _≤_, min}
+use native.Mathlib.Omega.{arith}
+use mathlib.Core.Bool.{Bool}
+use mathlib.Core.Path.{_≡_, refl, sym, ap, _∙_}
+use mathlib.Core.List.{List, [], _∷_, _++_}
+use lib.ListN.{length, getD, drop, length-append}
+use borrow.Author.Tests.{lt-ltb, le-ltb}
+use Rattle.base.specs.Lists.{firstOf, joined}
+use Rattle.base.proofs.Lists.{from-length, from-get, Passed, passed-more, passed-stop, passed-all, joined-more, joined-all}
+use Rattle.wire.specs.Lay.{put}
+use Rattle.wire.proofs.Laws.Lay.{put-none, put-length, puts-join, Joining, joining-none, joining-room, joining-more, joining-done}
+use Rattle.base.specs.declared.Checked.the-variants.{Accepted, Refused as No}
+use Rattle.fields.specs.Path.{pathBytes, badEntry, sixOf}
+use Rattle.fields.specs.declared.path.PathBytes.{PathBytes}
+use Rattle.fields.specs.declared.path.RelayPath.{RelayPath}
+use Rattle.kept.specs.Kept.{headed}
+use Rattle.composed.specs.Composed.{Lists, lists, pathCount, pathAt, pathRun, itemCount, itemIn, itemsIn, outsideOf, badPath, valueOf, itemWire, composedBytes}
+use Rattle.composed.specs.Passes.{heldOf, faultOf, totalOf}
+use Rattle.composed.specs.declared.Composed.{Composed}
+use Rattle.composed.specs.declared.Total.{Total}
+use Rattle.composed.specs.declared.Total.the-variants.{Sum, Over}
+use Rattle.composed.proofs.Faults.{over-told, within-told}
+use Rattle.composed.proofs.Runs.{held-in, run-length, run-at, six-length, path-length, told-bad, told-some, told-good, told-six}
+
+-- ---- a path
+
+module _ (l : Lists) (place len k n start : ℕ) (ek : k ≡ pathCount l) (en : n ≡ heldOf k place len) (es : start ≡ place) where
+  count : n ≡ heldOf (pathCount l) place len
+  count = en ∙ ap (λ (m : ℕ). heldOf m place len) ek
+
+  pub run-count : length (pathRun l place len) ≡ n
+  run-count = run-length l place len ∙ sym count
+
+  pub entry-in : (i : ℕ) → i < n → start + i < pathCount l
+  entry-in i h = rw es (held-in (pathCount l) place len i (rw (← count) h))
+
+  module _ (i : ℕ) (w : PathBytes) (h : i < n) (e : w ≡ pathBytes (pathAt l (start + i))) where
+    abbrev p : RelayPath
+    p = pathAt l (start + i)
+
+    in-run : i < length (pathRun l place len)
+    in-run = rw run-count h
+
+    the-entry : getD (pathRun l place len) i p ≡ p
+    the-entry = run-at l place len p i (rw (← count) h) ∙ ap (λ (m : ℕ). pathAt l (m + i)) (sym es)
+
+    pub path-more : w .answer ≡ Accepted → Passed badEntry (pathRun l place len) i → Passed badEntry (pathRun l place len) (i + 1)
+    path-more q y = passed-more badEntry (pathRun l place len) i p in-run (ap badEntry the-entry ∙ sym (told-good p w e q)) y
+
+    pub path-stop : (r : ℕ) → w .answer ≡ No r → Passed badEntry (pathRun l place len) i → r ≡ firstOf badEntry (pathRun l place len)
+    path-stop r q y = passed-stop badEntry (pathRun l place len) i p r in-run (ap badEntry the-entry ∙ sym (told-bad p w e r q)) (told-some p w e r q) y
+
+    pub six-more : (o₀ out out2 : List ℕ) (at o : ℕ) → out2 ≡ put out (at + o) (w .bytes)
+        → Joining o₀ at (joined sixOf (pathRun l place len)) out o (joined sixOf (drop i (pathRun l place len)))
+        → Joining o₀ at (joined sixOf (pathRun l place len)) out2 (o + 6) (joined sixOf (drop (i + 1) (pathRun l place len)))
+    six-more o₀ out out2 at o q j =
+        joining-more o₀ at (joined sixOf (pathRun l place len)) out o _ j (sixOf p) (joined sixOf (drop (i + 1) (pathRun l place len))) out2 6
+        (joined-more sixOf (pathRun l place len) i p in-run ∙ ap (λ (x : RelayPath). sixOf x ++ joined sixOf (drop (i + 1) (pathRun l place len))) the-entry)
+        (sym (six-length p)) (q ∙ ap (put out (at + o)) (told-six p w e))
+
+    pub six-room : (o₀ mid out : List ℕ) (at b o : ℕ) → mid ≡ put o₀ at (0 ∷ b ∷ [])
+        → Joining mid (at + 2) (joined sixOf (pathRun l place len)) out o (joined sixOf (drop i (pathRun l place len)))
+        → at + 2 + o + 6 ≤ length o₀
+    six-room o₀ mid out at b o em j =
+        let k : length mid ≡ length o₀ = ap length em ∙ put-length o₀ at (0 ∷ b ∷ []) in
+        let r = joining-room mid (at + 2) (joined sixOf (pathRun l place len)) out o _ j in
+        let a = ap length (joined-more sixOf (pathRun l place len) i p in-run) in
+        let d = length-append (sixOf (getD (pathRun l place len) i p)) (joined sixOf (drop (i + 1) (pathRun l place len))) in
+        let f = six-length (getD (pathRun l place len) i p) in
+        omega arith
+
+  pub path-all : (i : ℕ) → n ≤ i → Passed badEntry (pathRun l place len) i → 0 ≡ firstOf badEntry (pathRun l place len)
+  path-all i h w = passed-all badEntry (pathRun l place len) i (rw run-count h) w
+
+  pub path-bytes : length (joined sixOf (pathRun l place len)) ≡ 6 * n
+  path-bytes = path-length l place len ∙ ap (λ (m : ℕ). 6 * m) (sym count)
+
+  pub path-none : (o₀ : List ℕ) (at : ℕ) → length o₀ < at + (2 + 6 * n) → o₀ ≡ put o₀ at (headed 0 (joined sixOf (pathRun l place len)))
+  path-none o₀ at h = let y = path-bytes in sym (put-none o₀ at (headed 0 (joined sixOf (pathRun l place len))) (omega arith))
+
+  pub path-begin : (b at : ℕ) (o₀ mid : List ℕ) → at + (2 + 6 * n) ≤ length o₀ → mid ≡ put o₀ at (0 ∷ b ∷ [])
+      → Joining mid (at + 2) (joined sixOf (pathRun l place len)) mid 0 (joined sixOf (pathRun l place len))
+  path-begin b at o₀ mid room em =
+      let y = path-bytes in
+      let k : length mid ≡ length o₀ = ap length em ∙ put-length o₀ at (0 ∷ b ∷ []) in
+      joining-none mid (at + 2) (joined sixOf (pathRun l place len)) (omega arith)
+
+  -- head and entries, one behind the other
+  pub path-done : (i b at o : ℕ) (o₀ mid out : List ℕ) → n ≤ i → at + (2 + 6 * n) ≤ length o₀ → b ≡ 6 * n % 256 → mid ≡ put o₀ at (0 ∷ b ∷ [])
+      → Joining mid (at + 2) (joined sixOf (pathRun l place len)) out o (joined sixOf (drop i (pathRun l place len)))
+      → out ≡ put o₀ at (headed 0 (joined sixOf (pathRun l place len)))
+  path-done i b at o o₀ mid out h room eb em j =
+      let m : b ≡ length (joined sixOf (pathRun l place len)) % 256 = eb ∙ ap (λ (x : ℕ). x % 256) (sym path-bytes) in
+      let y = path-bytes in
+      let g : at + length ((0 ∷ b ∷ []) ++ joined sixOf (pathRun l place len)) ≤ length o₀ = omega arith in
+      joining-done mid (at + 2) (joined sixOf (pathRun l place len)) out o _ j (joined-all sixOf (pathRun l place len) i (rw run-count h))
+      ∙ ap (λ (x : List ℕ). put x (at + 2) (joined sixOf (pathRun l place len))) em
+      ∙ puts-join o₀ at (0 ∷ b ∷ []) (joined sixOf (pathRun l place len)) (at + 2) refl g
+      ∙ ap (λ (x : ℕ). put o₀ at (0 ∷ x ∷ joined sixOf (pathRun l place len))) m
+
+-- ---- the items
+
+-- what an item is read from, and what it is judged and written by
+abbrev rows : Lists → Lists
+rows l = lists (l .kinds) (l .spans) [] [] [] []
+
+abbrev lent : Lists → Lists
+lent l = lists [] [] (l .ids) (l .rssis) (l .snrs) (l .src)
+
+-- a sum of what the first i give, which is not over
+pub record Summing {A : Type 0} (f : A → List ℕ) (xs : List A) (most i sum : ℕ) : Type 0 where
+  pub small : sum ≤ most
+  pub rest : sum + length (joined f (drop i xs)) ≡ length (joined f xs)
+
+module _ (ev : Bool) (count : ℕ) (l : Lists) where
+  -- what an item gives does not depend on which lists it is from
+  pub same-fault : (pass : ℕ) (it : Composed) → faultOf pass ev (lent l) it ≡ faultOf pass ev l it
+  unfolding faultOf outsideOf badPath pathRun
+  same-fault pass it = refl
+
+  pub same-wire : (it : Composed) → itemWire ev (lent l) it ≡ itemWire ev l it
+  unfolding itemWire valueOf pathRun
+  same-wire it = refl
+
+  pub sum-none : (most : ℕ) → Summing (itemWire ev l) (itemsIn l count) most 0 0
+  sum-none most = record { small = omega arith; rest = omega arith }
+
+  -- what does not fit, and what does
+  pub item-none : (o₀ : List ℕ) (at : ℕ) → length o₀ < at → o₀ ≡ put o₀ at (composedBytes ev l count)
+  item-none o₀ at h = sym (put-none o₀ at (composedBytes ev l count) (omega arith))
+
+  pub item-over : (o₀ : List ℕ) (at : ℕ) (t : Total) → at ≤ length o₀ → t ≡ totalOf (length o₀ - at) (length (composedBytes ev l count)) → t ≡ Over
+      → o₀ ≡ put o₀ at (composedBytes ev l count)
+  item-over o₀ at t h e q = let k = over-told (length o₀ - at) (length (composedBytes ev l count)) (sym e ∙ q) in sym (put-none o₀ at (composedBytes ev l count) (omega arith))
+
+  pub item-begin : (o₀ : List ℕ) (at : ℕ) (t : Total) (m : ℕ) → at ≤ length o₀ → t ≡ totalOf (length o₀ - at) (length (composedBytes ev l count)) → t ≡ Sum m
+      → Joining o₀ at (composedBytes ev l count) o₀ 0 (joined (itemWire ev l) (itemsIn l count))
+  unfolding composedBytes
+  item-begin o₀ at t m h e q = let k = within-told (length o₀ - at) (length (composedBytes ev l count)) m (sym e ∙ q) in joining-none o₀ at (composedBytes ev l count) (omega arith)
+
+  module _ (n : ℕ) (en : n ≡ min count (itemCount l)) where
+    items-count : length (itemsIn l count) ≡ n
+    items-count = from-length (min count (itemCount l)) 0 (itemIn l) ∙ sym en
+
+    module _ (i : ℕ) (it : Composed) (h : i < n) (e : it ≡ itemIn (rows l) i) where
+      in-items : i < length (itemsIn l count)
+      in-items = rw items-count h
+
+      the-item : getD (itemsIn l count) i it ≡ it
+      the-item = from-get (min count (itemCount l)) (itemIn l) it i (rw (← en) h) ∙ sym e
+
+      pub pass-more : (pass r : ℕ) → r ≡ faultOf pass ev (lent l) it → r ≡ 0 → Passed (faultOf pass ev l) (itemsIn l count) i
+          → Passed (faultOf pass ev l) (itemsIn l count) (i + 1)
+      pass-more pass r q z w = passed-more (faultOf pass ev l) (itemsIn l count) i it in-items (ap (faultOf pass ev l) the-item ∙ sym (q ∙ same-fault pass it) ∙ z) w
+
+      pub pass-stop : (pass r : ℕ) → r ≡ faultOf pass ev (lent l) it → (r ≡ 0 → ⊥) → Passed (faultOf pass ev l) (itemsIn l count) i
+          → r ≡ firstOf (faultOf pass ev l) (itemsIn l count)
+      pass-stop pass r q z w = passed-stop (faultOf pass ev l) (itemsIn l count) i it r in-items (ap (faultOf pass ev l) the-item ∙ sym (q ∙ same-fault pass it)) z w
+
+      ahead : joined (itemWire ev l) (drop i (itemsIn l count)) ≡ itemWire ev l it ++ joined (itemWire ev l) (drop (i + 1) (itemsIn l count))
+      ahead = joined-more (itemWire ev l) (itemsIn l count) i it in-items ∙ ap (λ (x : Composed). itemWire ev l x ++ joined (itemWire ev l) (drop (i + 1) (itemsIn l count))) the-item
+
+      module _ (m : ℕ) (em : m ≡ length (itemWire ev (lent l) it)) where
+        long : m ≡ length (itemWire ev l it)
+        long = em ∙ ap length (same-wire it)
+
+        ahead-length : length (joined (itemWire ev l) (drop i (itemsIn l count))) ≡ m + length (joined (itemWire ev l) (drop (i + 1) (itemsIn l count)))
+        ahead-length = ap length ahead ∙ length-append (itemWire ev l it) (joined (itemWire ev l) (drop (i + 1) (itemsIn l count))) ∙ rw (← long)
+
+        pub sum-more : (most sum : ℕ) → m ≤ most - sum → Summing (itemWire ev l) (itemsIn l count) most i sum
+            → Summing (itemWire ev l) (itemsIn l count) most (i + 1) (sum + m)
+        sum-more most sum k s =
+            let a = ahead-length in
+            let b = s .rest in
+            let d = s .small in
+            record { small = omega arith; rest = omega arith }
+
+        pub sum-over : (most sum : ℕ) → most - sum < m → Summing (itemWire ev l) (itemsIn l count) most i sum
+            → Over ≡ totalOf most (length (composedBytes ev l count))
+        unfolding composedBytes totalOf
+        sum-over most sum k s =
+            let a = ahead-length in
+            let b = s .rest in
+            let d = s .small in
+            let g : most < length (joined (itemWire ev l) (itemsIn l count)) = omega arith in
+            simp (lt-ltb _ _ g)
+
+        pub item-room : (o₀ out : List ℕ) (at o : ℕ)
+            → Joining o₀ at (composedBytes ev l count) out o (joined (itemWire ev l) (drop i (itemsIn l count)))
+            → at + o + m ≤ length o₀
+        item-room o₀ out at o j =
+            let r = joining-room o₀ at _ out o _ j in
+            let a = ahead-length in
+            omega arith
+
+        pub item-more : (o₀ out out2 : List ℕ) (at o : ℕ) → out2 ≡ put out (at + o) (itemWire ev (lent l) it)
+            → Joining o₀ at (composedBytes ev l count) out o (joined (itemWire ev l) (drop i (itemsIn l count)))
+            → Joining o₀ at (composedBytes ev l count) out2 (o + m) (joined (itemWire ev l) (drop (i + 1) (itemsIn l count)))
+        item-more o₀ out out2 at o q j =
+            joining-more o₀ at _ out o _ j (itemWire ev l it) (joined (itemWire ev l) (drop (i + 1) (itemsIn l count))) out2 m ahead long
+            (q ∙ ap (put out (at + o)) (same-wire it))
+
+    pub pass-all : (pass i : ℕ) → n ≤ i → Passed (faultOf pass ev l) (itemsIn l count) i
+        → 0 ≡ firstOf (faultOf pass ev l) (itemsIn l count)
+    pass-all pass i h w = passed-all (faultOf pass ev l) (itemsIn l count) i (rw items-count h) w
+
+    pub sum-all : (most i sum : ℕ) → n ≤ i → Summing (itemWire ev l) (itemsIn l count) most i sum
+        → Sum sum ≡ totalOf most (length (composedBytes ev l count))
+    unfolding composedBytes totalOf
+    sum-all most i sum h s =
+        let a = ap length (joined-all (itemWire ev l) (itemsIn l count) i (rw items-count h)) in
+        let b = s .rest in
+        let d = s .small in
+        let g : length (joined (itemWire ev l) (itemsIn l count)) ≤ most = omega arith in
+        let q : sum ≡ length (joined (itemWire ev l) (itemsIn l count)) = omega arith in
+        ap Sum q ∙ simp (le-ltb _ _ g)
+
+    pub item-all : (i : ℕ) (o₀ out : List ℕ) (at o : ℕ) → n ≤ i
+        → Joining o₀ at (composedBytes ev l count) out o (joined (itemWire ev l) (drop i (itemsIn l count)))
+        → out ≡ put o₀ at (composedBytes ev l count)
+    item-all i o₀ out at o h j = joining-done o₀ at _ out o _ j (joined-all (itemWire ev l) (itemsIn l count) i (rw items-count h))

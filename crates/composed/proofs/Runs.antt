@@ -1,0 +1,238 @@
+-- Laws of a run in a list, of a path's entries and their six bytes. Assumes nothing.
+use Prim.Native.Nat.{ℕ, zero, suc, _+_, _-_, _*_, _%_, _<_, _≤_}
+use native.Mathlib.Nat.{add-zero, add-suc, suc-add, le-of-suc-le-suc, not-suc-le-zero}
+use native.Mathlib.Omega.{arith}
+use mathlib.Core.Bool.{Bool, true, false, not}
+use mathlib.Core.Path.{_≡_, refl, sym, ap, _∙_}
+use mathlib.Core.List.{List, [], _∷_}
+use lib.Dec.{ltb, eqb}
+use lib.IntN.{ℤ, pos, negsuc}
+use lib.ListN.{length, getD, take, drop, length-append, length-drop}
+use lib.Seq.{length-take-le}
+use borrow.Author.Tests.{ltb-false, eqb-true, eq-eqb, ne-eqb}
+use Rattle.base.specs.Pick.{pick}
+use Rattle.base.specs.Numbers.{heartbeatLength, rssiLarge, rssiSmall, snrSmall, snrLarge}
+use Rattle.base.specs.Lists.{from, joined}
+use Rattle.base.specs.Answers.{Frame, bytes, refused, checkedOf, bytesOr, frameNumber}
+use Rattle.base.specs.declared.Checked.the-variants.{Accepted, Refused as No}
+use Rattle.base.proofs.Lists.{from-length, imap-length}
+use Rattle.wire.specs.Number.{beBytes}
+use Rattle.wire.specs.Part.{reachOf, reachNumber, partOf}
+use Rattle.wire.specs.Run.{runRefusal}
+use Rattle.wire.specs.Lay.{put}
+use Rattle.wire.specs.declared.run.Run.{Run}
+use Rattle.wire.specs.declared.parts.Reach.the-variants.{Inside, Refused}
+use Rattle.fields.specs.Signal.{rssiByte, snrByte}
+use Rattle.fields.specs.Meta.{afterRssi}
+use Rattle.fields.specs.Path.{pathWire, pathBytes, badEntry, sixOf}
+use Rattle.fields.specs.declared.path.RelayPath.{RelayPath}
+use Rattle.fields.specs.declared.path.PathBytes.{PathBytes}
+use Rattle.fields.specs.declared.signal.SignalByte.{SignalByte}
+use Rattle.fields.specs.declared.signal.SignalByte.the-variants.{Byte, Refused as NoByte}
+use Rattle.kept.specs.Kept.{headed, fixed, itemBytes}
+use Rattle.composed.specs.Composed.{Lists, paths, pathCount, pathAt, pathRun, isPath, valueOf, itemWire}
+use Rattle.composed.specs.declared.Composed.{Composed}
+use Rattle.items.specs.Items.{isBeat, badBeat}
+use Rattle.composed.specs.Passes.{runAt, heldOf}
+
+-- ---- a run in a list of n
+
+module _ (n place len : ℕ) where
+  inside : (a b e : Bool) → ltb n place ≡ a → ltb (n - place) len ≡ b → eqb len 0 ≡ e
+      → pick e 0 (reachNumber (pick a (Refused 45) (pick b (Refused 45) Inside))) ≡ 0 → 0 < len → place + len ≤ n
+  inside a b true p q r z h = let k : len ≡ 0 = eqb-true len 0 r in omega arith
+  inside true b false p q r z h = absurd (omega arith)
+  inside false true false p q r z h = absurd (omega arith)
+  inside false false false p q r z h =
+      let k : place ≤ n = ltb-false n place p in
+      let m : len ≤ n - place = ltb-false (n - place) len q in
+      omega arith
+
+  fits : runRefusal n (runAt place len) ≡ 0 → 0 < len → place + len ≤ n
+  unfolding runRefusal reachOf
+  fits e h = inside (ltb n place) (ltb (n - place) len) (eqb len 0) refl refl refl e h
+
+  -- what is held lies in the list
+  pub held-in : (i : ℕ) → i < heldOf n place len → place + i < n
+  unfolding heldOf
+  held-in i h = go (eqb (runRefusal n (runAt place len)) 0) refl h
+    where
+      go : (t : Bool) → eqb (runRefusal n (runAt place len)) 0 ≡ t → i < pick t len 0 → place + i < n
+      go true e k = let f = fits (eqb-true _ _ e) (omega arith) in omega arith
+      go false e k = absurd (not-suc-le-zero k)
+
+  pub held-le : heldOf n place len ≤ len
+  unfolding heldOf
+  held-le = go (eqb (runRefusal n (runAt place len)) 0)
+    where
+      go : (t : Bool) → pick t len 0 ≤ len
+      go true = omega arith
+      go false = omega arith
+
+-- the part of a list is what is held of the run
+module _ (s : List ℕ) (place len : ℕ) where
+  part-is : (a b e : Bool) → ltb (length s) place ≡ a → ltb (length s - place) len ≡ b → eqb len 0 ≡ e
+      → length (pick a [] (pick b [] (take len (drop place s)))) ≡ pick (eqb (pick e 0 (reachNumber (pick a (Refused 45) (pick b (Refused 45) Inside)))) 0) len 0
+  part-is true b true p q r = sym (eqb-true len 0 r)
+  part-is true b false p q r = refl
+  part-is false true true p q r = sym (eqb-true len 0 r)
+  part-is false true false p q r = refl
+  part-is false false true p q r = let k : len ≡ 0 = eqb-true len 0 r in rw k
+  part-is false false false p q r =
+      let m : len ≤ length s - place = ltb-false (length s - place) len q in
+      length-take-le len (drop place s) (simp length-drop m)
+
+  pub part-length : length (partOf s place len) ≡ heldOf (length s) place len
+  unfolding partOf heldOf runRefusal reachOf
+  part-length = part-is (ltb (length s) place) (ltb (length s - place) len) (eqb len 0) refl refl refl
+
+-- ---- a path's entries
+
+from-at : {A : Type 0} (n i : ℕ) (f : ℕ → A) (z : A) (k : ℕ) → k < n → getD (from n i f) k z ≡ f (i + k)
+from-at zero i f z k h = absurd (not-suc-le-zero h)
+from-at (suc n) i f z zero h = ap f (sym (add-zero i))
+from-at (suc n) i f z (suc k) h = from-at n (suc i) f z k (le-of-suc-le-suc h) ∙ ap f (suc-add i k ∙ sym (add-suc i k))
+
+module _ (l : Lists) (place n : ℕ) where
+  run-is : pathRun l place n ≡ from (heldOf (pathCount l) place n) place (pathAt l)
+  unfolding pathRun heldOf
+  run-is = go (eqb (runRefusal (pathCount l) (runAt place n)) 0)
+    where
+      go : (t : Bool) → pick t (from n place (pathAt l)) [] ≡ from (pick t n 0) place (pathAt l)
+      go true = refl
+      go false = refl
+
+  pub run-length : length (pathRun l place n) ≡ heldOf (pathCount l) place n
+  run-length = ap length run-is ∙ from-length (heldOf (pathCount l) place n) place (pathAt l)
+
+  pub run-at : (z : RelayPath) (i : ℕ) → i < heldOf (pathCount l) place n → getD (pathRun l place n) i z ≡ pathAt l (place + i)
+  run-at z i h = ap (λ (xs : List RelayPath). getD xs i z) run-is ∙ from-at (heldOf (pathCount l) place n) place (pathAt l) z i h
+
+-- ---- an entry's six bytes
+
+six-go : (b : List ℕ) (s r : SignalByte) → length b ≡ 4 → length (bytesOr 6 (afterRssi b [] s r)) ≡ 6
+six-go b (Byte x) (Byte y) h = length-append b (y ∷ x ∷ []) ∙ omega arith
+six-go b (NoByte x) (Byte y) h = refl
+six-go b s (NoByte y) h = refl
+
+pub six-length : (p : RelayPath) → length (sixOf p) ≡ 6
+unfolding sixOf pathWire beBytes
+six-length p = six-go (beBytes 4 (p .«relay_id»)) (snrByte (p .snr)) (rssiByte (p .rssi)) refl
+
+pub sixes-length : (ps : List RelayPath) → length (joined sixOf ps) ≡ 6 * length ps
+unfolding joined
+sixes-length [] = refl
+sixes-length (p ∷ ps) = let a = six-length p in let b = sixes-length ps in length-append (sixOf p) (joined sixOf ps) ∙ omega arith
+
+pub path-length : (l : Lists) (place n : ℕ) → length (joined sixOf (pathRun l place n)) ≡ 6 * heldOf (pathCount l) place n
+path-length l place n = sixes-length (pathRun l place n) ∙ ap (λ (k : ℕ). 6 * k) (run-length l place n)
+
+-- what an entry's answer says, and its bytes
+pub told-bad : (p : RelayPath) (w : PathBytes) → w ≡ pathBytes p → (n : ℕ) → w .answer ≡ No n → n ≡ badEntry p
+unfolding pathBytes badEntry
+told-bad p w e n a = go (pathWire p) (sym (ap (λ (x : PathBytes). x .answer) e) ∙ a)
+  where
+    go : (f : Frame) → checkedOf f ≡ No n → n ≡ frameNumber f
+    go (bytes v) q = absurd (let z : _≡_ {A = ℕ} 0 1 = cc in omega arith)
+    go (refused k) q = cc
+
+-- a number of a refusal is not 0
+rssi-some : (x : ℤ) (n : ℕ) → rssiByte x ≡ NoByte n → n ≡ 0 → ⊥
+unfolding rssiByte
+rssi-some (pos zero) n q z = let y : _≡_ {A = ℕ} 0 1 = cc in omega arith
+rssi-some (pos (suc k)) n q z = let y : rssiLarge ≡ n = cc in omega arith
+rssi-some (negsuc k) n q z = go (ltb k 255) q
+  where
+    go : (t : Bool) → pick t (Byte (k + 1)) (NoByte rssiSmall) ≡ NoByte n → ⊥
+    go true r = let y : _≡_ {A = ℕ} 0 1 = cc in omega arith
+    go false r = let y : rssiSmall ≡ n = cc in omega arith
+
+snr-some : (x : ℤ) (n : ℕ) → snrByte x ≡ NoByte n → n ≡ 0 → ⊥
+unfolding snrByte
+snr-some (pos k) n q z = go (ltb k 32) q
+  where
+    go : (t : Bool) → pick t (Byte k) (NoByte snrLarge) ≡ NoByte n → ⊥
+    go true r = let y : _≡_ {A = ℕ} 0 1 = cc in omega arith
+    go false r = let y : snrLarge ≡ n = cc in omega arith
+snr-some (negsuc k) n q z = go (ltb k 32) q
+  where
+    go : (t : Bool) → pick t (Byte (63 - k)) (NoByte snrSmall) ≡ NoByte n → ⊥
+    go true r = let y : _≡_ {A = ℕ} 0 1 = cc in omega arith
+    go false r = let y : snrSmall ≡ n = cc in omega arith
+
+pub told-some : (p : RelayPath) (w : PathBytes) → w ≡ pathBytes p → (n : ℕ) → w .answer ≡ No n → n ≡ 0 → ⊥
+unfolding pathBytes pathWire
+told-some p w e n a = go (rssiByte (p .rssi)) (snrByte (p .snr)) refl refl (sym (ap (λ (x : PathBytes). x .answer) e) ∙ a)
+  where
+    go : (r s : SignalByte) → rssiByte (p .rssi) ≡ r → snrByte (p .snr) ≡ s → checkedOf (afterRssi (beBytes 4 (p .«relay_id»)) [] s r) ≡ No n → n ≡ 0 → ⊥
+    go (NoByte k) s u v q = let y : k ≡ n = cc in rssi-some (p .rssi) n (u ∙ ap NoByte y)
+    go (Byte k) (NoByte m) u v q = let y : m ≡ n = cc in snr-some (p .snr) n (v ∙ ap NoByte y)
+    go (Byte k) (Byte m) u v q = absurd (let y : _≡_ {A = ℕ} 0 1 = cc in omega arith)
+
+pub told-good : (p : RelayPath) (w : PathBytes) → w ≡ pathBytes p → w .answer ≡ Accepted → 0 ≡ badEntry p
+unfolding pathBytes badEntry
+told-good p w e a = go (pathWire p) (sym (ap (λ (x : PathBytes). x .answer) e) ∙ a)
+  where
+    go : (f : Frame) → checkedOf f ≡ Accepted → 0 ≡ frameNumber f
+    go (bytes v) q = refl
+    go (refused k) q = absurd (let z : _≡_ {A = ℕ} 0 1 = cc in omega arith)
+
+pub told-six : (p : RelayPath) (w : PathBytes) → w ≡ pathBytes p → w .bytes ≡ sixOf p
+unfolding pathBytes sixOf
+told-six p w e = ap (λ (x : PathBytes). x .bytes) e
+
+-- ---- a heartbeat in bytes
+
+module _ (ev : Bool) (t n : ℕ) where
+  pub no-beat : isBeat ev t ≡ false → _≡_ {A = ℕ} 0 (pick (badBeat ev t n) heartbeatLength 0)
+  unfolding badBeat
+  no-beat e = go ev (eqb t 0) e
+    where
+      go : (a b : Bool) → pick a b false ≡ false → _≡_ {A = ℕ} 0 (pick (pick a (pick b (not (eqb (n % 6) 0)) false) false) heartbeatLength 0)
+      go false b q = refl
+      go true b q = rw q
+
+  beat-is : isBeat ev t ≡ true → badBeat ev t n ≡ not (eqb (n % 6) 0)
+  unfolding badBeat
+  beat-is e = go ev (eqb t 0) e
+    where
+      go : (a b : Bool) → pick a b false ≡ true → pick a (pick b (not (eqb (n % 6) 0)) false) false ≡ not (eqb (n % 6) 0)
+      go false b q = absurd (let z : _≡_ {A = ℕ} 0 1 = cc in omega arith)
+      go true b q = rw q
+
+  pub whole-beat : isBeat ev t ≡ true → n % 6 ≡ 0 → _≡_ {A = ℕ} 0 (pick (badBeat ev t n) heartbeatLength 0)
+  whole-beat e h = rw (beat-is e, eq-eqb (n % 6) 0 h)
+
+  pub broken-beat : isBeat ev t ≡ true → (n % 6 ≡ 0 → ⊥) → heartbeatLength ≡ pick (badBeat ev t n) heartbeatLength 0
+  broken-beat e h = rw (beat-is e, ne-eqb (n % 6) 0 h)
+
+-- ---- how long an item is
+
+module _ (ev : Bool) (l : Lists) (it : Composed) where
+  pub path-size : isPath ev it ≡ true → (k n : ℕ) → k ≡ pathCount l → n ≡ heldOf k (it .place) (it .len) → 2 + 6 * n ≡ length (itemWire ev l it)
+  unfolding itemWire valueOf
+  path-size t k n ek en =
+      let a = path-length l (it .place) (it .len) in
+      let b : n ≡ heldOf (pathCount l) (it .place) (it .len) = en ∙ ap (λ (m : ℕ). heldOf m (it .place) (it .len)) ek in
+      rw t (omega arith)
+
+  pub value-size : isPath ev it ≡ false → (n : ℕ) → n ≡ heldOf (length (l .src)) (it .place) (it .len) → 2 + n ≡ length (itemWire ev l it)
+  unfolding itemWire valueOf
+  value-size t n en =
+      let a = part-length (l .src) (it .place) (it .len) in
+      let b = imap-length (fixed (isBeat ev (it .tag))) 0 (partOf (l .src) (it .place) (it .len)) in
+      rw t (omega arith)
+
+  -- ..and laid
+  pub path-laid : isPath ev it ≡ true → (o out : List ℕ) (at : ℕ) → out ≡ put o at (headed 0 (joined sixOf (pathRun (paths (l .ids) (l .rssis) (l .snrs)) (it .place) (it .len))))
+      → out ≡ put o at (itemWire ev l it)
+  unfolding itemWire valueOf pathRun
+  path-laid t o out at q = rw t q
+
+  pub value-laid : isPath ev it ≡ false → (o out v : List ℕ) (at : ℕ) (b : Bool) (run : Run) → b ≡ isBeat ev (it .tag) → run ≡ runAt (it .place) (it .len)
+      → v ≡ partOf (l .src) (run .start) (run .len) → out ≡ put o at (itemBytes b (it .tag) v)
+      → out ≡ put o at (itemWire ev l it)
+  unfolding itemWire valueOf itemBytes
+  value-laid t o out v at b run eb er ev2 q =
+      let w : v ≡ partOf (l .src) (it .place) (it .len) = ev2 ∙ ap (λ (r : Run). partOf (l .src) (r .start) (r .len)) er in
+      rw (t, ← w, ← eb) q

@@ -1,0 +1,114 @@
+-- Items that a caller composes, in lent lists: the first refusal over all of them, pass by pass, and their bytes. Assumes nothing.
+use Prim.Native.Nat.{ℕ, min}
+use mathlib.Core.Bool.{Bool, false, not}
+use mathlib.Core.List.{List, []}
+use lib.Dec.{ltb, eqb}
+use lib.IntN.{ℤ, pos}
+use lib.ListN.{length, getD}
+use Rattle.base.specs.Pick.{pick}
+use Rattle.base.specs.Lists.{from, imap, orElse, firstOf, joined}
+use Rattle.base.specs.Numbers.{itemLong, heartbeatLength, outside, itemMost, pathMost}
+use Rattle.base.specs.Answers.{Frame, bytes}
+use Rattle.wire.specs.Part.{partOf}
+use Rattle.wire.specs.Run.{runRefusal}
+use Rattle.fields.specs.Meta.{unlessRefused}
+use Rattle.fields.specs.Path.{badEntry, sixOf}
+use Rattle.fields.specs.declared.path.RelayPath.{RelayPath}
+use Rattle.items.specs.Items.{isBeat, badBeat}
+use Rattle.kept.specs.Kept.{headed, fixed}
+use Rattle.composed.specs.declared.Composed.{Composed}
+
+-- what is lent: of each item kind and tag, and place and length; the entries of paths in three lists; and the bytes of values
+pub record Lists : Type 0 where
+  pub kinds : List (List ℕ)
+  pub spans : List (List ℕ)
+  pub ids : List ℕ
+  pub rssis : List ℤ
+  pub snrs : List ℤ
+  pub src : List ℕ
+
+abbrev pub lists : List (List ℕ) → List (List ℕ) → List ℕ → List ℤ → List ℤ → List ℕ → Lists
+lists kinds spans ids rssis snrs src = record { kinds = kinds; spans = spans; ids = ids; rssis = rssis; snrs = snrs; src = src }
+
+-- only the entries of paths
+abbrev pub paths : List ℕ → List ℤ → List ℤ → Lists
+paths ids rssis snrs = lists [] [] ids rssis snrs []
+
+-- ---- the entries of paths
+
+-- the shortest list counts
+abbrev pub pathCount : Lists → ℕ
+pathCount l = min (length (l .ids)) (min (length (l .rssis)) (length (l .snrs)))
+
+abbrev pub pathAt : Lists → ℕ → RelayPath
+pathAt l i = record { «relay_id» = getD (l .ids) i 0; rssi = getD (l .rssis) i (pos 0); snr = getD (l .snrs) i (pos 0) }
+
+-- n entries from a place on, and none where they run outside
+unfoldable pub pathRun : Lists → ℕ → ℕ → List RelayPath
+pathRun l place n = pick (eqb (runRefusal (pathCount l) (record { start = place; len = n })) 0) (from n place (pathAt l)) []
+
+-- ---- the items
+
+abbrev pub itemCount : Lists → ℕ
+itemCount l = min (length (l .kinds)) (length (l .spans))
+
+abbrev pub itemIn : Lists → ℕ → Composed
+itemIn l i =
+    record {
+      kind = getD (getD (l .kinds) i []) 0 0;
+      tag = getD (getD (l .kinds) i []) 1 0;
+      place = getD (getD (l .spans) i []) 0 0;
+      len = getD (getD (l .spans) i []) 1 0;
+    }
+
+abbrev pub itemsIn : Lists → ℕ → List Composed
+itemsIn l n = from (min n (itemCount l)) 0 (itemIn l)
+
+-- kind 0 is a value in bytes; any other in an event is a path, which is written with tag 0; in a command every kind is a value
+abbrev pub isPath : Bool → Composed → Bool
+isPath ev it = pick ev (not (eqb (it .kind) 0)) false
+
+-- ---- what is wrong with one item, in each pass: 45, the first bad path entry, 19, 20
+
+unfoldable pub outsideOf : Bool → Lists → Composed → ℕ
+outsideOf ev l it = runRefusal (pick (isPath ev it) (pathCount l) (length (l .src))) (record { start = it .place; len = it .len })
+
+unfoldable pub badPath : Bool → Lists → Composed → ℕ
+badPath ev l it = pick (isPath ev it) (firstOf badEntry (pathRun l (it .place) (it .len))) 0
+
+unfoldable pub longOf : Bool → Composed → ℕ
+longOf ev it = pick (ltb (pick (isPath ev it) pathMost itemMost) (it .len)) itemLong 0
+
+-- a heartbeat in bytes whose length is no multiple of 6
+unfoldable pub unevenOf : Bool → Composed → ℕ
+unevenOf ev it = pick (isPath ev it) 0 (pick (badBeat ev (it .tag) (it .len)) heartbeatLength 0)
+
+-- over all items, pass by pass; and 45 first of all where there are not as many
+unfoldable pub verdictOf : Bool → Lists → ℕ → ℕ
+verdictOf ev l n =
+    orElse (pick (ltb (itemCount l) n) outside 0)
+    (orElse (firstOf (outsideOf ev l) (itemsIn l n))
+    (orElse (firstOf (badPath ev l) (itemsIn l n))
+    (orElse (firstOf (longOf ev) (itemsIn l n)) (firstOf (unevenOf ev) (itemsIn l n)))))
+
+-- ---- their bytes
+
+-- a path's entries, or the bytes of a value with a heartbeat's ignored bits cleared
+unfoldable pub valueOf : Bool → Lists → Composed → List ℕ
+valueOf ev l it =
+    pick (isPath ev it) (joined sixOf (pathRun l (it .place) (it .len)))
+    (imap (fixed (isBeat ev (it .tag))) 0 (partOf (l .src) (it .place) (it .len)))
+
+unfoldable pub itemWire : Bool → Lists → Composed → List ℕ
+itemWire ev l it = headed (pick (isPath ev it) 0 (it .tag)) (valueOf ev l it)
+
+unfoldable pub composedBytes : Bool → Lists → ℕ → List ℕ
+composedBytes ev l n = joined (itemWire ev l) (itemsIn l n)
+
+-- what is written of n composed items, or the first refusal
+unfoldable pub composedWire : Bool → Lists → ℕ → Frame
+composedWire ev l n = unlessRefused (verdictOf ev l n) (bytes (composedBytes ev l n))
+
+-- a length, and 8,193 for any that is larger
+abbrev pub capped : ℕ → ℕ
+capped n = pick (ltb 8192 n) 8193 n

@@ -1,0 +1,32 @@
+-- What the functions inside cite: one pass by its number, how much of a run a list holds, and a sum that may be over. Assumes nothing.
+use Prim.Native.Nat.{ℕ}
+use mathlib.Core.Bool.{Bool}
+use lib.Dec.{ltb, eqb}
+use lib.ListN.{length}
+use Rattle.base.specs.Pick.{pick}
+use Rattle.wire.specs.Run.{runRefusal}
+use Rattle.wire.specs.declared.run.Run.{Run}
+use Rattle.composed.specs.Composed.{Lists, pathCount, outsideOf, badPath, longOf, unevenOf}
+use Rattle.composed.specs.declared.Composed.{Composed}
+use Rattle.composed.specs.declared.Total.{Total}
+use Rattle.composed.specs.declared.Total.the-variants.{Sum, Over}
+
+abbrev pub runAt : ℕ → ℕ → Run
+runAt place len = record { start = place; len = len }
+
+-- all of a run, or nothing where it lies outside a list of n
+unfoldable pub heldOf : ℕ → ℕ → ℕ → ℕ
+heldOf n place len = pick (eqb (runRefusal n (runAt place len)) 0) len 0
+
+-- how long the list is that an item's place and length are in
+abbrev pub reachFor : Bool → Lists → ℕ
+reachFor path l = pick path (pathCount l) (length (l .src))
+
+unfoldable pub faultOf : ℕ → Bool → Lists → Composed → ℕ
+faultOf pass ev l it =
+    pick (eqb pass 0) (outsideOf ev l it)
+    (pick (eqb pass 1) (badPath ev l it)
+    (pick (eqb pass 2) (longOf ev it) (unevenOf ev it)))
+
+unfoldable pub totalOf : ℕ → ℕ → Total
+totalOf most n = pick (ltb most n) Over (Sum n)

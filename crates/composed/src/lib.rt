@@ -1,0 +1,437 @@
+// Items that a caller composes, in lent lists: judged pass by pass over the whole list, measured, and laid into a lent buffer.
+ghost use mathlib.Core.Path.{_≡_};
+ghost use mathlib.Core.List.{[]};
+ghost use mathlib.Core.Bool.{not, false as no};
+ghost use Prim.Native.Nat.{_<_, min};
+ghost use lib.Dec.{eqb, ltb};
+ghost use lib.ListN.{length};
+ghost use Rattle.base.specs.Pick.{pick};
+ghost use Rattle.base.specs.Lists.{firstOf, joined};
+ghost use Rattle.base.specs.Numbers.{itemLong, heartbeatLength, itemMost, pathMost};
+ghost use Rattle.wire.specs.Lay.{put};
+ghost use Rattle.fields.specs.Path.{pathBytes, badEntry, sixOf};
+ghost use Rattle.items.specs.Items.{badBeat};
+ghost use Rattle.kept.specs.Kept.{headed};
+ghost use Rattle.composed.specs.Composed.{lists, paths, pathCount, pathAt, pathRun, itemIn, itemsIn, itemWire, verdictOf, composedBytes, capped};
+ghost use Rattle.composed.specs.Passes.{runAt, heldOf, reachFor, faultOf, totalOf};
+use base::Checked;
+use base::Limit;
+use base::Refusal;
+use base::least;
+use fields::PathBytes;
+use fields::RelayPath;
+use kept::is_beat;
+use kept::low_byte;
+use kept::put_item;
+use wire::Run;
+use wire::put_all;
+
+// One item, as it stands in the lists.
+struct Composed {
+    kind: u8,
+    tag: u8,
+    place: u32,
+    len: u32,
+}
+
+// A sum, unless it is over what it may be at most.
+enum Total {
+    Sum(usize),
+    Over,
+}
+
+fn size_of(n: u32) -> usize
+    ensures { λ r. ⌜ r ≡ n ⌝ }
+{
+    n as usize
+}
+
+fn run_of(place: u32, len: u32) -> Run
+    ensures { λ r. ⌜ r ≡ runAt place len ⌝ }
+{
+    Run {
+        start: size_of(place),
+        len: size_of(len),
+    }
+}
+
+// How many of a run there are in a list of n: all, or none where it runs outside.
+fn held(n: usize, place: u32, len: u32) -> usize
+    ensures { λ r. ⌜ r ≡ heldOf n place len ⌝ }
+{
+    if run_of(place, len).refusal(n) == 0 {
+        return size_of(len);
+    }
+    0
+}
+
+// ---- the entries of paths
+fn path_count(ids: &[u32], rssis: &[i16], snrs: &[i8]) -> usize
+    ensures { λ r. ⌜ r ≡ pathCount (paths (now (ids .entry)) (now (rssis .entry)) (now (snrs .entry))) ⌝ }
+{
+    least(ids.len(), least(rssis.len(), snrs.len()))
+}
+
+// An entry as it is written, or why it is not.
+fn entry(i: usize, ids: &[u32], rssis: &[i16], snrs: &[i8]) -> PathBytes
+    requires { ⌜ i < pathCount (paths (now ids) (now rssis) (now snrs)) ⌝ }
+    ensures { λ r. ⌜ r ≡ pathBytes (pathAt (paths (now (ids .entry)) (now (rssis .entry)) (now (snrs .entry))) i) ⌝ }
+{
+    let p = RelayPath {
+        relay_id: ids[i],
+        rssi: rssis[i],
+        snr: snrs[i],
+    };
+    p.to_bytes()
+}
+
+// The first bad entry of a path.
+fn bad_run(place: u32, len: u32, ids: &[u32], rssis: &[i16], snrs: &[i8]) -> u8
+    ensures { λ r. ⌜ r ≡ firstOf badEntry (pathRun (paths (now (ids .entry)) (now (rssis .entry)) (now (snrs .entry))) place len) ⌝ }
+{
+    let n = held(path_count(ids, rssis, snrs), place, len);
+    let start = size_of(place);
+    let mut i: usize = 0;
+    while i < n {
+        let made = entry(start + i, ids, rssis, snrs);
+        let answer = made.answer;
+        match answer {
+            Checked::Accepted => i += 1,
+            Checked::Refused(r) => return r,
+        }
+    }
+    0
+}
+
+// ---- the items
+fn item_count(count: usize, kinds: &[[u8; 2]], spans: &[[u32; 2]]) -> usize
+    ensures { λ r. ⌜ r ≡ min count (min (length (now (kinds .entry))) (length (now (spans .entry)))) ⌝ }
+{
+    least(count, least(kinds.len(), spans.len()))
+}
+
+fn item_at(i: usize, kinds: &[[u8; 2]], spans: &[[u32; 2]]) -> Composed
+    requires { ⌜ i < min (length (now kinds)) (length (now spans)) ⌝ }
+    ensures { λ r. ⌜ r ≡ itemIn (lists (now (kinds .entry)) (now (spans .entry)) [] [] [] []) i ⌝ }
+{
+    let kind = kinds[i];
+    let span = spans[i];
+    Composed {
+        kind: kind[0],
+        tag: kind[1],
+        place: span[0],
+        len: span[1],
+    }
+}
+
+fn is_path(is_event: bool, kind: u8) -> bool
+    ensures { λ r. ⌜ r ≡ pick «is_event» (not (eqb kind 0)) no ⌝ }
+{
+    if is_event {
+        return kind != 0;
+    }
+    false
+}
+
+// How long the list is that an item's place and length are in.
+fn reach(path: bool, ids: &[u32], rssis: &[i16], snrs: &[i8], src: &[u8]) -> usize
+    ensures { λ r. ⌜ r ≡ reachFor path (lists [] [] (now (ids .entry)) (now (rssis .entry)) (now (snrs .entry)) (now (src .entry))) ⌝ }
+{
+    if path {
+        return path_count(ids, rssis, snrs);
+    }
+    src.len()
+}
+
+fn long(path: bool, len: u32) -> u8
+    ensures { λ r. ⌜ r ≡ pick (ltb (pick path pathMost itemMost) len) itemLong 0 ⌝ }
+{
+    let n = size_of(len);
+    if path {
+        if Limit::PATH < n {
+            return Refusal::ITEM_LONG;
+        }
+        return 0;
+    }
+    if Limit::ITEM < n {
+        return Refusal::ITEM_LONG;
+    }
+    0
+}
+
+fn uneven(is_event: bool, path: bool, tag: u8, len: u32) -> u8
+    ensures { λ r. ⌜ r ≡ pick path 0 (pick (badBeat «is_event» tag len) heartbeatLength 0) ⌝ }
+{
+    if path {
+        return 0;
+    }
+    if is_beat(is_event, tag) {
+        if len % 6 != 0 {
+            return Refusal::HEARTBEAT_LENGTH;
+        }
+        return 0;
+    }
+    0
+}
+
+// What is wrong with one item: in pass 0 its place, in 1 its path's entries, in 2 its length, in 3 a heartbeat's length.
+fn fault(
+    pass: u8,
+    is_event: bool,
+    it: Composed,
+    ids: &[u32],
+    rssis: &[i16],
+    snrs: &[i8],
+    src: &[u8],
+) -> u8
+    ensures { λ r. ⌜ r ≡ faultOf pass «is_event» (lists [] [] (now (ids .entry)) (now (rssis .entry)) (now (snrs .entry)) (now (src .entry))) it ⌝ }
+{
+    let path = is_path(is_event, it.kind);
+    if pass == 0 {
+        return run_of(it.place, it.len).refusal(reach(path, ids, rssis, snrs, src));
+    }
+    if pass == 1 {
+        if path {
+            return bad_run(it.place, it.len, ids, rssis, snrs);
+        }
+        return 0;
+    }
+    if pass == 2 {
+        return long(path, it.len);
+    }
+    uneven(is_event, path, it.tag, it.len)
+}
+
+// One pass over all items.
+fn first(
+    pass: u8,
+    is_event: bool,
+    count: usize,
+    kinds: &[[u8; 2]],
+    spans: &[[u32; 2]],
+    ids: &[u32],
+    rssis: &[i16],
+    snrs: &[i8],
+    src: &[u8],
+) -> u8
+    ensures { λ r. ⌜ r ≡ firstOf (faultOf pass «is_event» (lists (now (kinds .entry)) (now (spans .entry)) (now (ids .entry)) (now (rssis .entry)) (now (snrs .entry)) (now (src .entry)))) (itemsIn (lists (now (kinds .entry)) (now (spans .entry)) (now (ids .entry)) (now (rssis .entry)) (now (snrs .entry)) (now (src .entry))) count) ⌝ }
+{
+    let n = item_count(count, kinds, spans);
+    let mut i: usize = 0;
+    while i < n {
+        let it = item_at(i, kinds, spans);
+        let r = fault(pass, is_event, it, ids, rssis, snrs, src);
+        if r != 0 {
+            return r;
+        }
+        i += 1;
+    }
+    0
+}
+
+// The first refusal of `count` items, or 0: each pass is over all of them before the next begins.
+pub fn verdict(
+    is_event: bool,
+    count: usize,
+    kinds: &[[u8; 2]],
+    spans: &[[u32; 2]],
+    ids: &[u32],
+    rssis: &[i16],
+    snrs: &[i8],
+    src: &[u8],
+) -> u8
+    ensures { λ r. ⌜ r ≡ verdictOf «is_event» (lists (now (kinds .entry)) (now (spans .entry)) (now (ids .entry)) (now (rssis .entry)) (now (snrs .entry)) (now (src .entry))) count ⌝ }
+{
+    if least(kinds.len(), spans.len()) < count {
+        return Refusal::OUTSIDE;
+    }
+    let place = first(0, is_event, count, kinds, spans, ids, rssis, snrs, src);
+    if place != 0 {
+        return place;
+    }
+    let path = first(1, is_event, count, kinds, spans, ids, rssis, snrs, src);
+    if path != 0 {
+        return path;
+    }
+    let long = first(2, is_event, count, kinds, spans, ids, rssis, snrs, src);
+    if long != 0 {
+        return long;
+    }
+    first(3, is_event, count, kinds, spans, ids, rssis, snrs, src)
+}
+
+// ---- sizes
+fn item_size(
+    is_event: bool,
+    it: Composed,
+    ids: &[u32],
+    rssis: &[i16],
+    snrs: &[i8],
+    src: &[u8],
+) -> usize
+    ensures { λ r. ⌜ r ≡ length (itemWire «is_event» (lists [] [] (now (ids .entry)) (now (rssis .entry)) (now (snrs .entry)) (now (src .entry))) it) ⌝ }
+{
+    if is_path(is_event, it.kind) {
+        return 2 + 6 * held(path_count(ids, rssis, snrs), it.place, it.len);
+    }
+    2 + held(src.len(), it.place, it.len)
+}
+
+fn sum_up(
+    most: usize,
+    is_event: bool,
+    count: usize,
+    kinds: &[[u8; 2]],
+    spans: &[[u32; 2]],
+    ids: &[u32],
+    rssis: &[i16],
+    snrs: &[i8],
+    src: &[u8],
+) -> Total
+    ensures { λ r. ⌜ r ≡ totalOf most (length (composedBytes «is_event» (lists (now (kinds .entry)) (now (spans .entry)) (now (ids .entry)) (now (rssis .entry)) (now (snrs .entry)) (now (src .entry))) count)) ⌝ }
+{
+    let n = item_count(count, kinds, spans);
+    let mut i: usize = 0;
+    let mut sum: usize = 0;
+    while i < n {
+        let it = item_at(i, kinds, spans);
+        let more = item_size(is_event, it, ids, rssis, snrs, src);
+        if most - sum < more {
+            return Total::Over;
+        }
+        sum = sum + more;
+        i += 1;
+    }
+    Total::Sum(sum)
+}
+
+// How many bytes `count` items are; 8,193 stands for any larger number.
+pub fn size(
+    is_event: bool,
+    count: usize,
+    kinds: &[[u8; 2]],
+    spans: &[[u32; 2]],
+    ids: &[u32],
+    rssis: &[i16],
+    snrs: &[i8],
+    src: &[u8],
+) -> usize
+    ensures { λ r. ⌜ r ≡ capped (length (composedBytes «is_event» (lists (now (kinds .entry)) (now (spans .entry)) (now (ids .entry)) (now (rssis .entry)) (now (snrs .entry)) (now (src .entry))) count)) ⌝ }
+{
+    match sum_up(
+        Limit::FRAME,
+        is_event,
+        count,
+        kinds,
+        spans,
+        ids,
+        rssis,
+        snrs,
+        src,
+    ) {
+        Total::Sum(n) => n,
+        Total::Over => Limit::FRAME + 1,
+    }
+}
+
+// ---- bytes
+fn put_path(
+    place: u32,
+    len: u32,
+    ids: &[u32],
+    rssis: &[i16],
+    snrs: &[i8],
+    out: &mut [u8],
+    at: usize,
+)
+    ensures { λ _. ⌜ now (out .exit) ≡ put (now (out .entry)) at (headed 0 (joined sixOf (pathRun (paths (now (ids .entry)) (now (rssis .entry)) (now (snrs .entry))) place len))) ⌝ }
+{
+    let n = held(path_count(ids, rssis, snrs), place, len);
+    if out.len() < at {
+        return;
+    }
+    if out.len() - at < 2 + 6 * n {
+        return;
+    }
+    let head = [0u8, low_byte(6 * n)];
+    put_all(&head, out, at);
+    let start = size_of(place);
+    let body = at + 2;
+    let mut i: usize = 0;
+    let mut o: usize = 0;
+    while i < n {
+        let made = entry(start + i, ids, rssis, snrs);
+        let six = made.bytes;
+        put_all(&six, out, body + o);
+        o += 6;
+        i += 1;
+    }
+}
+
+fn lay_item(
+    is_event: bool,
+    it: Composed,
+    ids: &[u32],
+    rssis: &[i16],
+    snrs: &[i8],
+    src: &[u8],
+    out: &mut [u8],
+    at: usize,
+)
+    ensures { λ _. ⌜ now (out .exit) ≡ put (now (out .entry)) at (itemWire «is_event» (lists [] [] (now (ids .entry)) (now (rssis .entry)) (now (snrs .entry)) (now (src .entry))) it) ⌝ }
+{
+    if is_path(is_event, it.kind) {
+        put_path(it.place, it.len, ids, rssis, snrs, out, at);
+    } else {
+        put_item(
+            is_beat(is_event, it.tag),
+            it.tag,
+            run_of(it.place, it.len).bytes(src),
+            out,
+            at,
+        );
+    }
+}
+
+// The items' bytes, where all of them fit.
+pub fn put_composed(
+    is_event: bool,
+    count: usize,
+    kinds: &[[u8; 2]],
+    spans: &[[u32; 2]],
+    ids: &[u32],
+    rssis: &[i16],
+    snrs: &[i8],
+    src: &[u8],
+    out: &mut [u8],
+    at: usize,
+)
+    ensures { λ _. ⌜ now (out .exit) ≡ put (now (out .entry)) at (composedBytes «is_event» (lists (now (kinds .entry)) (now (spans .entry)) (now (ids .entry)) (now (rssis .entry)) (now (snrs .entry)) (now (src .entry))) count) ⌝ }
+{
+    if out.len() < at {
+        return;
+    }
+    let told = sum_up(
+        out.len() - at,
+        is_event,
+        count,
+        kinds,
+        spans,
+        ids,
+        rssis,
+        snrs,
+        src,
+    );
+    let Total::Sum(_) = told else {
+        return;
+    };
+    let n = item_count(count, kinds, spans);
+    let mut i: usize = 0;
+    let mut o: usize = 0;
+    while i < n {
+        let it = item_at(i, kinds, spans);
+        lay_item(is_event, it, ids, rssis, snrs, src, out, at + o);
+        o += item_size(is_event, it, ids, rssis, snrs, src);
+        i += 1;
+    }
+}
