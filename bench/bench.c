@@ -1,4 +1,4 @@
-/* Speed and stack of the cipher and the MIC, beside OpenSSL's, in one process. bench/run builds and runs it twice: with the processor's AES
+/* Speed and stack of the cipher, the MIC and the stream, beside OpenSSL's, in one process. bench/run builds and runs it twice: with the processor's AES
    instructions and with them switched off for OpenSSL; the port uses none, so its figures should be the same in both. */
 #define _GNU_SOURCE
 #define OPENSSL_SUPPRESS_DEPRECATED
@@ -7,6 +7,7 @@
 #include <openssl/crypto.h>
 #include <openssl/evp.h>
 #include <pthread.h>
+#include <stdbool.h>
 #include <stdint.h>
 #include <stdio.h>
 #include <stdlib.h>
@@ -18,8 +19,11 @@ void mesh_prepare(const uint8_t *key, uint32_t *cipher);
 void mesh_encipher(const uint32_t *cipher, uint8_t *block);
 void mesh_cmac(const uint8_t *key, const uint8_t *message, size_t length, uint8_t *tag);
 void mesh_mac(const uint32_t *cipher, const uint8_t *message, size_t length, uint8_t *tag);
+uint8_t mesh_stream(const uint8_t *key, bool is_command, uint32_t relay_id, uint32_t timestamp, const uint8_t *payload, size_t length, uint8_t *out, size_t room);
+uint8_t mesh_count(bool is_event, const uint8_t *payload, size_t length, uint64_t *counts);
 
-static uint8_t key[16], message[255], block[16], tag[16];
+static uint8_t key[16], message[255], block[16], tag[16], sealed[255], work[255];
+static uint64_t counts[5];
 static uint32_t ready[1024]; /* more than any prepared cipher takes */
 
 static double now(void)
@@ -75,6 +79,24 @@ static void agree(void)
     }
     CMAC_CTX_free(context);
     printf("20000 blocks and 20000 MICs of 0 to 255 bytes: equal to OpenSSL's\n");
+    EVP_CIPHER_CTX *ctr = EVP_CIPHER_CTX_new();
+    for (int round = 0; round < 20000; round++) {
+        uint8_t theirs_sealed[255], first[16] = {1};
+        int written;
+        uint32_t relay = (uint32_t)rand() * 3u, time = (uint32_t)rand() * 5u;
+        bool command = rand() & 1;
+        size_t n = rand() % 256;
+        for (int i = 0; i < 16; i++) key[i] = rand();
+        for (size_t i = 0; i < n; i++) message[i] = rand();
+        first[5] = command, first[15] = 1;
+        for (int i = 0; i < 4; i++) first[6 + i] = relay >> (24 - 8 * i), first[10 + i] = time >> (24 - 8 * i);
+        EVP_EncryptInit_ex(ctr, EVP_aes_128_ctr(), NULL, key, first);
+        EVP_EncryptUpdate(ctr, theirs_sealed, &written, message, (int)n);
+        if (mesh_stream(key, command, relay, time, message, n, sealed, 255) || memcmp(sealed, theirs_sealed, n)) fail("a sealed payload differs from OpenSSL's CTR");
+        if (mesh_stream(key, command, relay, time, sealed, n, work, 255) || memcmp(work, message, n)) fail("an opened payload differs from the clear one");
+    }
+    EVP_CIPHER_CTX_free(ctr);
+    printf("20000 payloads of 0 to 255 bytes, sealed and opened: equal to OpenSSL's CTR\n");
 }
 
 /* ---- the stack: a thread on a stack that was painted before, and how far down the paint is gone */
@@ -123,6 +145,12 @@ int main(int count, char **words)
     TIME(ready14, 5000, mesh_mac(ready, message, 14, tag); message[0] = tag[0]);
     TIME(ready255, 2000, mesh_mac(ready, message, 255, tag); message[0] = tag[0]);
 
+    /* items of 8 bytes each, so that opening has something to count */
+    double seal100, open100;
+    for (int i = 0; i < 100; i++) message[i] = i % 10 == 0 ? 1 : i % 10 == 1 ? 8 : i;
+    TIME(seal100, 5000, mesh_stream(key, false, 0x0a0b0c0d, 60, message, 100, sealed, 255); key[1] = sealed[3]);
+    TIME(open100, 5000, mesh_stream(key, false, 0x0a0b0c0d, 60, sealed, 100, work, 255); mesh_count(true, work, 100, counts); key[1] = work[3] + counts[0]);
+
     AES_KEY theirs;
     uint8_t many[4096] = {0};
     int written;
@@ -136,6 +164,11 @@ int main(int count, char **words)
     TIME(bulk, 100, EVP_EncryptUpdate(ecb, many, &written, many, 4096));
     bulk /= 256;
     TIME(their_expand, 5000, EVP_EncryptInit_ex(ecb, NULL, NULL, key, NULL); key[0]++);
+    double ctr100;
+    uint8_t first[16] = {1, [15] = 1};
+    EVP_CIPHER_CTX *ctr = EVP_CIPHER_CTX_new();
+    EVP_EncryptInit_ex(ctr, EVP_aes_128_ctr(), NULL, key, first);
+    TIME(ctr100, 2000, EVP_EncryptInit_ex(ctr, NULL, NULL, key, first); EVP_EncryptUpdate(ctr, sealed, &written, message, 100); key[1] = sealed[3]);
     CMAC_CTX *context = CMAC_CTX_new();
     const EVP_CIPHER *cbc = EVP_aes_128_cbc();
     CMAC_Init(context, key, 16, cbc, NULL);
@@ -154,6 +187,8 @@ int main(int count, char **words)
     row("MIC of 255 bytes, key set each time", mac255, set255, "CMAC, context reused");
     row("MIC of 14 bytes, key ready", ready14, same14, "CMAC, key kept");
     row("MIC of 255 bytes, key ready", ready255, same255, "CMAC, key kept");
+    row("100 bytes sealed, key set each time", seal100, ctr100, "EVP CTR, context reused");
+    row("100 bytes opened and counted, key set", open100, ctr100, "EVP CTR, context reused");
     printf("%-44s %9.1f\n", "a block, key set", once);
 
     size_t none = depth(idle);

@@ -20,7 +20,7 @@ pub from-length : {A : Type 0} (n i : ℕ) (f : ℕ → A) → length (from n i 
 from-length zero i f = refl
 from-length (suc n) i f = ap suc (from-length n (suc i) f)
 
-from-at : {A : Type 0} (n i : ℕ) (f : ℕ → A) (z : A) (k : ℕ) → k < n → getD (from n i f) k z ≡ f (i + k)
+pub from-at : {A : Type 0} (n i : ℕ) (f : ℕ → A) (z : A) (k : ℕ) → k < n → getD (from n i f) k z ≡ f (i + k)
 from-at zero i f z k h = absurd (not-suc-le-zero h)
 from-at (suc n) i f z zero h = ap f (sym (add-zero i))
 from-at (suc n) i f z (suc k) h = from-at n (suc i) f z k (le-of-suc-le-suc h) ∙ ap f (suc-add i k ∙ sym (add-suc i k))

@@ -1,12 +1,13 @@
 -- One item in each pass, the passes one after another, and the sum's answer, on plain values. Assumes nothing.
-use Prim.Native.Nat.{ℕ, zero, suc, _<_, _≤_}
+use Prim.Native.Nat.{ℕ, zero, suc, _+_, _<_, _≤_}
 use native.Mathlib.Omega.{arith}
 use mathlib.Core.Bool.{Bool, true, false}
 use mathlib.Core.Path.{_≡_, refl, sym, ap, ap₂, _∙_}
 use lib.Dec.{ltb}
 use borrow.Author.Tests.{lt-ltb, le-ltb, eq-eqb, ne-eqb, ltb-true, ltb-false}
 use Rattle.base.specs.Pick.{pick}
-use Rattle.base.specs.Lists.{orElse, firstOf}
+use Rattle.base.specs.Lists.{from, orElse, firstOf}
+use Rattle.base.proofs.Lists.{from-get, Passed, passed-more, passed-stop, passed-all}
 use Rattle.base.specs.Numbers.{itemLong, heartbeatLength, outside, itemMost, pathMost}
 use Rattle.wire.specs.Run.{runRefusal}
 use Rattle.wire.specs.declared.run.Run.{Run}
@@ -46,23 +47,32 @@ module _ (ev : Bool) (l : Lists) (it : Composed) (pass : ℕ) (b : Bool) (eb : b
 
 -- ---- pass by pass
 
-pub or-stop : (a b r : ℕ) → r ≡ a → (r ≡ 0 → ⊥) → r ≡ orElse a b
-or-stop zero b r e h = absurd (h e)
-or-stop (suc a) b r e h = e
-
-pub or-next : (a b r s : ℕ) → r ≡ a → r ≡ 0 → s ≡ b → s ≡ orElse a b
-or-next a b r s e z q = rw (sym e ∙ z) q
+or-none : (a : ℕ) → orElse a 0 ≡ a
+or-none zero = refl
+or-none (suc a) = refl
 
 module _ (ev : Bool) (l : Lists) (n : ℕ) where
   pub few : itemCount l < n → outside ≡ verdictOf ev l n
   unfolding verdictOf
   few h = simp (lt-ltb (itemCount l) n h)
 
-  pub by-pass : n ≤ itemCount l → (r : ℕ)
-      → r ≡ orElse (firstOf (faultOf 0 ev l) (itemsIn l n)) (orElse (firstOf (faultOf 1 ev l) (itemsIn l n)) (orElse (firstOf (faultOf 2 ev l) (itemsIn l n)) (firstOf (faultOf 3 ev l) (itemsIn l n))))
-      → r ≡ verdictOf ev l n
-  unfolding verdictOf faultOf
-  by-pass h r e = simp (le-ltb (itemCount l) n h) e
+  -- what one pass finds, by its number; and the four, one after another
+  abbrev pub found : ℕ → ℕ
+  found pass = firstOf (faultOf pass ev l) (itemsIn l n)
+
+  by-pass : n ≤ itemCount l → firstOf found (from 4 0 (λ p. p)) ≡ verdictOf ev l n
+  unfolding verdictOf faultOf firstOf
+  by-pass h = simp (le-ltb (itemCount l) n h, or-none)
+
+  module _ (h : n ≤ itemCount l) (pass : ℕ) where
+    pub next-pass : (r : ℕ) → pass < 4 → r ≡ found pass → r ≡ 0 → Passed found (from 4 0 (λ p. p)) pass → Passed found (from 4 0 (λ p. p)) (pass + 1)
+    next-pass r k e z w = passed-more found (from 4 0 (λ p. p)) pass 0 k (ap found (from-get 4 (λ p. p) 0 pass k) ∙ sym e ∙ z) w
+
+    pub pass-stops : (r : ℕ) → pass < 4 → r ≡ found pass → (r ≡ 0 → ⊥) → Passed found (from 4 0 (λ p. p)) pass → r ≡ verdictOf ev l n
+    pass-stops r k e z w = passed-stop found (from 4 0 (λ p. p)) pass 0 r k (ap found (from-get 4 (λ p. p) 0 pass k) ∙ sym e) z w ∙ by-pass h
+
+    pub passes-all : 4 ≤ pass → Passed found (from 4 0 (λ p. p)) pass → 0 ≡ verdictOf ev l n
+    passes-all k w = passed-all found (from 4 0 (λ p. p)) pass k w ∙ by-pass h
 
 -- ---- the sum
 

@@ -99,9 +99,12 @@ module _ (ev : Bool) (l : Lists) (it : Composed) where
       let c = held-le (length (l .src)) (it .place) (it .len) in
       omega arith
 
-  pub value-short : longOf ev it ≡ 0 → length (valueOf ev l it) ≤ 255
+  pub short-value : longOf ev it ≡ 0 → length (valueOf ev l it) ≤ 255
   unfolding longOf valueOf
-  value-short e = short (isPath ev it) e
+  short-value e = short (isPath ev it) e
+
+pub value-short : (ev : Bool) (l : Lists) (n : ℕ) → verdictOf ev l n ≡ 0 → (i : ℕ) → i < n → length (valueOf ev l (itemIn l i)) ≤ 255
+value-short ev l n e i h = short-value ev l (itemIn l i) (all-fine ev l n e i h .not-long)
 
 -- ---- a size that is capped
 

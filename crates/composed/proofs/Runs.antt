@@ -15,7 +15,7 @@ use Rattle.base.specs.Numbers.{heartbeatLength, rssiLarge, rssiSmall, snrSmall,
 use Rattle.base.specs.Lists.{from, joined}
 use Rattle.base.specs.Answers.{Frame, bytes, refused, checkedOf, bytesOr, frameNumber}
 use Rattle.base.specs.declared.Checked.the-variants.{Accepted, Refused as No}
-use Rattle.base.proofs.Lists.{from-length, imap-length}
+use Rattle.base.proofs.Lists.{from-length, from-at, imap-length}
 use Rattle.wire.specs.Number.{beBytes}
 use Rattle.wire.specs.Part.{reachOf, reachNumber, partOf}
 use Rattle.wire.specs.Run.{runRefusal}
@@ -87,11 +87,6 @@ module _ (s : List ℕ) (place len : ℕ) where
   part-length = part-is (ltb (length s) place) (ltb (length s - place) len) (eqb len 0) refl refl refl
 
 -- ---- a path's entries
-
-from-at : {A : Type 0} (n i : ℕ) (f : ℕ → A) (z : A) (k : ℕ) → k < n → getD (from n i f) k z ≡ f (i + k)
-from-at zero i f z k h = absurd (not-suc-le-zero h)
-from-at (suc n) i f z zero h = ap f (sym (add-zero i))
-from-at (suc n) i f z (suc k) h = from-at n (suc i) f z k (le-of-suc-le-suc h) ∙ ap f (suc-add i k ∙ sym (add-suc i k))
 
 module _ (l : Lists) (place n : ℕ) where
   run-is : pathRun l place n ≡ from (heldOf (pathCount l) place n) place (pathAt l)
@@ -223,7 +218,7 @@ module _ (ev : Bool) (l : Lists) (it : Composed) where
       let b = imap-length (fixed (isBeat ev (it .tag))) 0 (partOf (l .src) (it .place) (it .len)) in
       rw t (omega arith)
 
-  -- ..and laid
+  -- and laid
   pub path-laid : isPath ev it ≡ true → (o out : List ℕ) (at : ℕ) → out ≡ put o at (headed 0 (joined sixOf (pathRun (paths (l .ids) (l .rssis) (l .snrs)) (it .place) (it .len))))
       → out ≡ put o at (itemWire ev l it)
   unfolding itemWire valueOf pathRun

@@ -245,19 +245,15 @@ pub fn verdict(
     if least(kinds.len(), spans.len()) < count {
         return Refusal::OUTSIDE;
     }
-    let place = first(0, is_event, count, kinds, spans, ids, rssis, snrs, src);
-    if place != 0 {
-        return place;
+    let mut pass: u8 = 0;
+    while pass < 4 {
+        let r = first(pass, is_event, count, kinds, spans, ids, rssis, snrs, src);
+        if r != 0 {
+            return r;
+        }
+        pass += 1;
     }
-    let path = first(1, is_event, count, kinds, spans, ids, rssis, snrs, src);
-    if path != 0 {
-        return path;
-    }
-    let long = first(2, is_event, count, kinds, spans, ids, rssis, snrs, src);
-    if long != 0 {
-        return long;
-    }
-    first(3, is_event, count, kinds, spans, ids, rssis, snrs, src)
+    0
 }
 
 // ---- sizes

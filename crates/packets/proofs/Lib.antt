@@ -1,7 +1,2 @@
 pub mod Steps
-pub mod Which
-pub mod Trip
-pub mod Again
-pub mod Same
-pub mod Back
 pub mod Fixed

@@ -1,23 +1,35 @@
 -- `composed::verdict` meets its contract. Assumes nothing.
+use Prim.Native.Nat.{_-_}
 use native.Mathlib.Omega.{arith}
-use Rattle.composed.proofs.Faults.{or-stop, or-next, few, by-pass}
+use denote.Ref.{now}
+use Rattle.base.specs.Lists.{from}
+use Rattle.base.proofs.Lists.{Passed, passed-none}
+use Rattle.composed.specs.Composed.{lists}
+use Rattle.composed.proofs.Faults.{few, found, next-pass, pass-stops, passes-all}
+use borrow.Author.Needs.{needs}
 use Rattle.composed.proofs.verdict.Statement.{statement}
 use Rattle.composed.proofs.verdict.Tie as tie
 
-returns : tie.Need-returns
+abbrev Inv-loop : tie.InvT-loop
+Inv-loop is-event count kinds spans ids rssis snrs src pass₀ pass = Passed (found is-event (lists kinds spans ids rssis snrs src) count) (from 4 0 (λ p. p)) pass
+
+abbrev μ-loop : tie.MeasureT-loop
+μ-loop is-event count kinds spans ids rssis snrs src pass₀ pass = 4 - pass
+
+returns : tie.Need-returns Inv-loop μ-loop
 returns c = few _ _ _ (omega arith)
 
-returns-2 : tie.Need-returns-2
-returns-2 c = by-pass _ _ _ (omega arith) _ (or-stop _ _ _ (c .before .first .ensures) (c .if2 .taken))
+loop-holds : tie.Need-loop-holds Inv-loop μ-loop
+loop-holds c = passed-none _ _
 
-returns-3 : tie.Need-returns-3
-returns-3 c = by-pass _ _ _ (omega arith) _ (or-next _ _ _ _ (c .before .before .before .first .ensures) (c .before .before .if2 .left) (or-stop _ _ _ (c .before .first2 .ensures) (c .if3 .taken)))
+returns-2 : tie.Need-returns-2 Inv-loop μ-loop
+returns-2 c = let a = c .before .before .before .before .before .before .before .before .args in pass-stops (a .is-event) (lists (now (a .kinds)) (now (a .spans)) (now (a .ids)) (now (a .rssis)) (now (a .snrs)) (now (a .src))) (a .count) (omega arith) _ _ (c .before .before .loop-test .taken) (c .before .first .ensures) (c .if2 .taken) (c .before .before .before .loop .inv)
 
-returns-4 : tie.Need-returns-4
-returns-4 c = by-pass _ _ _ (omega arith) _ (or-next _ _ _ _ (c .before .before .before .before .before .first .ensures) (c .before .before .before .before .if2 .left) (or-next _ _ _ _ (c .before .before .before .first2 .ensures) (c .before .before .if3 .left) (or-stop _ _ _ (c .before .first3 .ensures) (c .if4 .taken))))
+loop-again : tie.Need-loop-again Inv-loop μ-loop
+loop-again c = let a = c .before .before .before .before .before .before .before .before .args in next-pass (a .is-event) (lists (now (a .kinds)) (now (a .spans)) (now (a .ids)) (now (a .rssis)) (now (a .snrs)) (now (a .src))) (a .count) (omega arith) _ _ (c .before .before .loop-test .taken) (c .before .first .ensures) (c .if2 .left) (c .before .before .before .loop .inv)
 
-returns-5 : tie.Need-returns-5
-returns-5 c = by-pass _ _ _ (omega arith) _ (or-next _ _ _ _ (c .before .before .before .before .before .before .first .ensures) (c .before .before .before .before .before .if2 .left) (or-next _ _ _ _ (c .before .before .before .before .first2 .ensures) (c .before .before .before .if3 .left) (or-next _ _ _ _ (c .before .before .first3 .ensures) (c .before .if4 .left) (c .first4 .ensures))))
+returns-3 : tie.Need-returns-3 Inv-loop μ-loop
+returns-3 c = let a = c .before .before .before .before .before .before .args in passes-all (a .is-event) (lists (now (a .kinds)) (now (a .spans)) (now (a .ids)) (now (a .rssis)) (now (a .snrs)) (now (a .src))) (a .count) (omega arith) _ (c .loop-test .left) (c .before .loop .inv)
 
 pub verdict-spec : {M : Type 1} → statement M
-verdict-spec = tie.close (tie.spec (λ c κs. tt) returns (λ c κs. tt) returns-2 (λ c κs. tt) returns-3 (λ c κs. tt) returns-4 (λ c κs. tt) returns-5)
+verdict-spec = tie.close (tie.spec Inv-loop μ-loop (λ c κs. tt) returns loop-holds (λ c κs. tt) returns-2 (λ c. search needs) (λ c. search needs) loop-again returns-3)

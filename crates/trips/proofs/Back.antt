@@ -32,17 +32,17 @@ use Rattle.events.specs.declared.stamped.EventPayload.{EventPayload}
 use Rattle.events.specs.declared.stamped.CommandPayload.{CommandPayload}
 use Rattle.payloads.proofs.Laws.{unless-bytes, run-bytes, uplink-length, downlink-length, uplink-read-back, heard, downlink-read-back}
 use Rattle.events.proofs.Laws.{stamp-length, stamped-bytes, event-read-back, command-read-back}
 use Rattle.packets.specs.Read.{ofUplink, ofDownlink, ofEvent, ofCommand, payloadAt, meshOf, packetOf}
 use Rattle.packets.specs.Write.{payloadWire, meshFrame, loraFrame}
 use Rattle.packets.specs.declared.mesh.Payload.{Payload}
 use Rattle.packets.specs.declared.mesh.Payload.the-variants.{Uplink as AnUplink, Downlink as ADownlink, Event as AnEvent, Command as ACommand}
 use Rattle.packets.specs.declared.mesh.PayloadRead.{PayloadRead}
 use Rattle.packets.specs.declared.mesh.PayloadRead.the-variants.{Payload as PayloadIs}
 use Rattle.packets.specs.declared.mesh.MeshPacket.{MeshPacket}
 use Rattle.packets.specs.declared.mesh.MeshRead.the-variants.{Mesh}
 use Rattle.packets.specs.declared.any.Packet.the-variants.{Lora}
 use Rattle.packets.specs.declared.any.PacketRead.the-variants.{Packet as PacketIs}
-use Rattle.packets.proofs.Trip.{Made, made, readAs, frame-read}
+use Rattle.trips.proofs.Trip.{Made, made, readAs, frame-read}
 
 -- the part behind x is v
 part-behind : (x v y : List ℕ) (n : ℕ) → length x ≡ n → partOf ((x ++ v) ++ y) n (length v) ≡ v

@@ -46,16 +46,16 @@ use Rattle.events.specs.declared.stamped.CommandRead.the-variants.{Payload as C
 use Rattle.payloads.proofs.Steps.{listed}
 use Rattle.payloads.proofs.Laws.{uplink-was, uplink-again, downlink-was, downlink-again}
 use Rattle.events.proofs.Laws.{event-was, event-again, command-was, command-again}
 use Rattle.packets.specs.Read.{bodyIn, ofUplink, ofDownlink, ofEvent, ofCommand, payloadAt, meshOf}
 use Rattle.packets.specs.Write.{payloadWire, meshFrame}
-use Rattle.packets.specs.Which.{cleared, framed}
+use Rattle.trips.specs.Which.{cleared, framed}
 use Rattle.packets.specs.declared.mesh.Payload.{Payload}
 use Rattle.packets.specs.declared.mesh.Payload.the-variants.{Uplink as AnUplink, Downlink as ADownlink, Event as AnEvent, Command as ACommand}
 use Rattle.packets.specs.declared.mesh.PayloadRead.the-variants.{Payload as PayloadIs}
 use Rattle.packets.specs.declared.mesh.MeshPacket.{MeshPacket}
 use Rattle.packets.specs.declared.mesh.MeshRead.the-variants.{Mesh}
-use Rattle.packets.proofs.Which.{body-length}
-use Rattle.packets.proofs.Again.{Read, was-read, read-written}
+use Rattle.trips.proofs.Which.{body-length}
+use Rattle.trips.proofs.Again.{Read, was-read, read-written}
 
 -- a part of bytes is bytes
 take-bytes : (n : ℕ) (s : List ℕ) → Bytes s → Bytes (take n s)

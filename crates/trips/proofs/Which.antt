@@ -18,8 +18,8 @@ use Rattle.fields.specs.declared.header.HeaderRead.the-variants.{Header}
 use Rattle.fields.proofs.Laws.Header.{Marked, marked, not-marked}
 use Rattle.payloads.specs.Read.{uplinkAt, downlinkAt}
 use Rattle.events.specs.Read.{stampedAt, eventAt, commandAt}
 use Rattle.packets.specs.Read.{bodyIn, payloadAt, withPayload, withHeader, meshOf}
-use Rattle.packets.specs.Which.{leastFrame, numberOf, meshNumber}
+use Rattle.trips.specs.Which.{leastFrame, numberOf, meshNumber}
 
 pub body-length : (s : List ℕ) → 5 ≤ length s → length (bodyIn s) ≡ length s - 5
 body-length s h =

@@ -24,16 +24,16 @@ use Rattle.fields.specs.declared.header.HeaderByte.the-variants.{Byte}
 use Rattle.fields.proofs.Laws.Header.{header-again}
 use Rattle.payloads.specs.Read.{fourAt}
 use Rattle.composed.specs.Composed.{Lists}
-use Rattle.packets.specs.Which.{framed}
+use Rattle.trips.specs.Which.{framed}
 use Rattle.payloads.proofs.Steps.{listed}
 use Rattle.payloads.specs.Write.{withMic}
 use Rattle.packets.specs.Read.{bodyIn, payloadAt, withPayload, withHeader, meshOf}
 use Rattle.packets.specs.Write.{payloadWire, behind, messageOf, meshFrame}
 use Rattle.packets.specs.declared.mesh.MeshPacket.{MeshPacket}
 use Rattle.packets.specs.declared.mesh.PayloadRead.{PayloadRead}
 use Rattle.packets.specs.declared.mesh.PayloadRead.the-variants.{Payload as PayloadIs, Refused as NoPayload}
 use Rattle.packets.specs.declared.mesh.MeshRead.{MeshRead}
 use Rattle.packets.specs.declared.mesh.MeshRead.the-variants.{Mesh, Refused}
 
 pub record Read (s : List ℕ) (p : MeshPacket) : Type 0 where
   pub least : 5 ≤ length s

@@ -1,0 +1,5 @@
+pub mod Which
+pub mod Trip
+pub mod Again
+pub mod Same
+pub mod Back
