@@ -45,7 +45,7 @@ use Rattle.packets.specs.declared.any.PacketRead.the-variants.{Packet as Packet
 use Rattle.trips.proofs.Trip.{Made, made, readAs, frame-read}
 
 -- the part behind x is v
-part-behind : (x v y : List ℕ) (n : ℕ) → length x ≡ n → partOf ((x ++ v) ++ y) n (length v) ≡ v
+pub part-behind : (x v y : List ℕ) (n : ℕ) → length x ≡ n → partOf ((x ++ v) ++ y) n (length v) ≡ v
 unfolding partOf
 part-behind x v y n e =
     let l : length ((x ++ v) ++ y) ≡ length x + length v + length y = simp length-append in

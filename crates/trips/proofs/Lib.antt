@@ -3,3 +3,4 @@ pub mod Trip
 pub mod Again
 pub mod Same
 pub mod Back
+pub mod Sealed

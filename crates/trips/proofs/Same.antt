@@ -90,7 +90,7 @@ unfolding runRefusal reachOf
 inside-by n start len h true e = simp e
 inside-by n start len h false e = simp (e, le-ltb n start (omega arith), le-ltb (n - start) len (omega arith))
 
-inside : (n start len : ℕ) → start + len ≤ n → runRefusal n (record { start = start; len = len }) ≡ 0
+pub inside : (n start len : ℕ) → start + len ≤ n → runRefusal n (record { start = start; len = len }) ≡ 0
 inside n start len h = inside-by n start len h (eqb len 0) refl
 
 module _ (s : List ℕ) (least : 5 ≤ length s) where
