@@ -6,3 +6,4 @@ pub mod First
 pub mod Xor
 pub mod Lists
 pub mod Answers
+pub mod Says

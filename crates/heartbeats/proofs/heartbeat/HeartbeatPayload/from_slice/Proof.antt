@@ -55,7 +55,8 @@ use Rattle.fields.proofs.path.RelayPath.Laws as R′
 use Rattle.heartbeats.specs.declared.heartbeat.HeartbeatRead.{HeartbeatRead}
 use Rattle.heartbeats.specs.Heartbeat.{entryAt, entries, beatOf}
 use Rattle.heartbeats.specs.Steps.{countOf}
-use Rattle.heartbeats.proofs.Counted.{says-both, counted}
+use Rattle.base.proofs.Says.{says-both}
+use Rattle.heartbeats.proofs.Counted.{counted}
 use Rattle.heartbeats.proofs.Steps.{noPath, filled, filled-more, filled-length, filled-all, Fits, count-fits}
 use Rattle.heartbeats.proofs.heartbeat.HeartbeatRead as E
 use Rattle.heartbeats.proofs.heartbeat.HeartbeatRead.Laws as E′

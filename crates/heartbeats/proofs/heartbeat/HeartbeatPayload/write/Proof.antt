@@ -60,7 +60,8 @@ use Rattle.fields.proofs.path.RelayPath.Laws as R′
 use Rattle.fields.specs.Path.{badEntry, sixOf}
 use Rattle.heartbeats.specs.Steps.{verdictOf, placesOf}
 use Rattle.heartbeats.proofs.Again.{LentAgain, lends-again, comes-back}
-use Rattle.heartbeats.proofs.Counted.{says-both, counted}
+use Rattle.base.proofs.Says.{says-both}
+use Rattle.heartbeats.proofs.Counted.{counted}
 use Rattle.heartbeats.proofs.Steps.{noPath, packed, packed-none, packed-more, packed-all, packed-fits, verdict-is, Fits}
 use Rattle.heartbeats.proofs.heartbeat.first_bad as first
 use Rattle.heartbeats.proofs.heartbeat.first_bad.Symbol as first-def

@@ -1,0 +1,127 @@
+-- Duplicate records, and the cache of the last of them: first as a reader thinks of it, a list whose oldest record comes first; then as the
+-- code keeps it, a ring. proofs/Laws.antt shows that the two answer alike. Assumes nothing.
+use Prim.Native.Nat.{ℕ, _+_, _-_, _%_, min}
+use mathlib.Core.Bool.{Bool, true, false, _&&_, _||_}
+use mathlib.Core.List.{List, [], _∷_, _++_}
+use lib.Dec.{ltb, eqb}
+use lib.ListN.{length, take, drop, set, replicate}
+use Rattle.base.specs.Pick.{pick}
+use Rattle.base.specs.Numbers.{cacheSize, cacheMost}
+use Rattle.base.specs.Answers.{Answer, value, number}
+use Rattle.base.specs.declared.Checked.the-variants.{Accepted, Refused as NotMade}
+use Rattle.fields.specs.Header.{codeOf}
+use Rattle.fields.specs.declared.header.PayloadType.{PayloadType}
+use Rattle.fields.specs.declared.header.PayloadType.the-variants.{Uplink}
+use Rattle.packets.specs.declared.mesh.MeshPacket.{MeshPacket}
+use Rattle.packets.specs.declared.mesh.Payload.{Payload}
+use Rattle.packets.specs.declared.mesh.Payload.the-variants as payload
+use Rattle.cache.specs.declared.record.PayloadCache.{PayloadCache}
+use Rattle.cache.specs.declared.ring.Cache.{Cache}
+use Rattle.cache.specs.declared.ring.CacheNew.{CacheNew}
+use Rattle.cache.specs.declared.ring.Added.{Added}
+use Rattle.cache.specs.declared.ring.CacheAnswer.{CacheAnswer}
+use Rattle.cache.specs.declared.ring.CacheAnswer.the-variants.{New, Seen, Refused}
+
+-- ---- records
+
+-- type, uplink id, timestamp, relay id
+abbrev pub rec : PayloadType → ℕ → ℕ → ℕ → PayloadCache
+rec t u s i = record { «p_type» = t; «uplink_id» = u; timestamp = s; «relay_id» = i }
+
+-- the id is 0 for events and commands, the timestamp 0 for uplinks and downlinks
+abbrev pub recordBy : PayloadType → Payload → PayloadCache
+recordBy t (payload.Uplink v) = rec t (v .metadata .«uplink_id») 0 (v .«relay_id»)
+recordBy t (payload.Downlink v) = rec t (v .metadata .«uplink_id») 0 (v .«relay_id»)
+recordBy t (payload.Event v) = rec t 0 (v .timestamp) (v .«relay_id»)
+recordBy t (payload.Command v) = rec t 0 (v .timestamp) (v .«relay_id»)
+
+unfoldable pub recordOf : MeshPacket → PayloadCache
+recordOf p = recordBy (p .mhdr .«payload_type») (p .payload)
+
+unfoldable pub sameRecord : PayloadCache → PayloadCache → Bool
+sameRecord a b =
+    eqb (codeOf (a .«p_type»)) (codeOf (b .«p_type»)) && eqb (a .«uplink_id») (b .«uplink_id»)
+    && eqb (a .timestamp) (b .timestamp) && eqb (a .«relay_id») (b .«relay_id»)
+
+unfoldable pub has : List PayloadCache → PayloadCache → Bool
+has [] r = false
+has (x ∷ xs) r = sameRecord x r || has xs r
+
+-- ---- the last n records, oldest first
+
+-- r behind l, whose oldest leaves where it has n
+unfoldable pub push : ℕ → List PayloadCache → PayloadCache → List PayloadCache
+push n l r = pick (ltb (length l) n) l (drop 1 l) ++ (r ∷ [])
+
+-- the answer, and the list from now on: a hit does not move a record
+unfoldable pub step : ℕ → List PayloadCache → PayloadCache → CacheAnswer × List PayloadCache
+step n l r = pick (has l r) (Seen, l) (New, push n l r)
+
+-- the answers to records that are added one after the other
+unfoldable pub answers : ℕ → List PayloadCache → List PayloadCache → List CacheAnswer
+answers n l [] = []
+answers n l (r ∷ rs) = step n l r .0 ∷ answers n (step n l r .1) rs
+
+-- the same in document 01's words, over all records that were ever added: a hit is one of the last n of them
+abbrev pub lastOf : ℕ → List PayloadCache → List PayloadCache
+lastOf n l = drop (length l - n) l
+
+unfoldable pub answersLast : ℕ → List PayloadCache → List PayloadCache → List CacheAnswer
+answersLast n all [] = []
+answersLast n all (r ∷ rs) = pick (has (lastOf n all) r) (Seen ∷ answersLast n all rs) (New ∷ answersLast n (all ++ (r ∷ [])) rs)
+
+-- ---- the ring
+
+abbrev pub emptyRing : ℕ → Cache
+emptyRing n = record { slots = replicate 64 (rec Uplink 0 0 0); size = n; len = 0; next = 0 }
+
+-- 24 for a size of 0 or over 64, with a cache of size 0
+unfoldable pub newOf : ℕ → CacheNew
+newOf n =
+    pick (ltb n 1) (record { answer = NotMade cacheSize; cache = emptyRing 0 })
+    (pick (ltb cacheMost n) (record { answer = NotMade cacheSize; cache = emptyRing 0 })
+    (record { answer = Accepted; cache = emptyRing n }))
+
+-- how many records it holds, and the place of the next one
+abbrev pub countIn : Cache → ℕ
+countIn c = min (c .len) (c .size)
+
+abbrev pub placeIn : Cache → ℕ
+placeIn c = c .next % c .size
+
+-- r in the next place
+unfoldable pub pushedOf : Cache → PayloadCache → Cache
+pushedOf c r =
+    record {
+      slots = set (c .slots) (placeIn c) r;
+      size = c .size;
+      len = min (countIn c + 1) (c .size);
+      next = (placeIn c + 1) % c .size;
+    }
+
+-- 24 for a size of 0 or over 64, and the cache as it was
+abbrev pub refusedBy : Cache → Added
+refusedBy c = record { answer = Refused cacheSize; cache = c }
+
+unfoldable pub addedOf : Cache → PayloadCache → Added
+addedOf c r =
+    pick (ltb (c .size) 1) (refusedBy c)
+    (pick (ltb cacheMost (c .size)) (refusedBy c)
+    (pick (has (take (countIn c) (c .slots)) r) (record { answer = Seen; cache = c })
+    (record { answer = New; cache = pushedOf c r })))
+
+-- the answers to records that are added one after the other
+unfoldable pub ringAnswers : Cache → List PayloadCache → List CacheAnswer
+ringAnswers c [] = []
+ringAnswers c (r ∷ rs) = addedOf c r .answer ∷ ringAnswers (addedOf c r .cache) rs
+
+-- its records, oldest first
+unfoldable pub contents : Cache → List PayloadCache
+contents c = drop (placeIn c) (take (countIn c) (c .slots)) ++ take (placeIn c) (c .slots)
+
+-- ---- document 01's number, or the value, of each answer: yes is a new record
+
+abbrev pub addSays : CacheAnswer → Answer Bool
+addSays New = value true
+addSays Seen = value false
+addSays (Refused n) = number n
