@@ -1,5 +1,5 @@
 // Runs the four frames of document 01's dump, its example P11, sealed payloads of many lengths and a composed event, and prints a line for
-// each. The file stdout beside src/ has what an independent program over OpenSSL gives; the gate compares.
+// each. The file stdout beside src/ has what they should be, and the gate compares; docs/DECISIONS.md says where each line comes from.
 use aes128::Aes128Key;
 use base::Written;
 use bodies::Body;
