@@ -7,3 +7,4 @@ pub mod Xor
 pub mod Lists
 pub mod Answers
 pub mod Says
+pub mod Bytes

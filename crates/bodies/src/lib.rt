@@ -5,4 +5,5 @@ mod write;
 
 pub use body::Body;
 pub use body::Held;
+pub use body::held_in;
 pub use open::Opened;

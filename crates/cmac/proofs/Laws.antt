@@ -13,6 +13,7 @@ use borrow.Author.Tests.{lt-ltb, eq-eqb, ne-eqb, ltb-true, ltb-false}
 use Rattle.base.specs.Pick.{pick}
 use Rattle.base.specs.Lists.{Bytes, added}
 use Rattle.base.specs.Blocks.{Block, Agree}
+use Rattle.base.proofs.Bytes.{append-lt, take-lt, drop-lt, zeros-lt}
 use Rattle.base.proofs.Lists.{_◂_, from-lt, added-none, added-length, added-lt, added-one, added-zeros, added-assoc}
 use Rattle.cmac.specs.Cmac.{zeros, rb, shl, shifted, doubled, k1, k2, blockAt, padded, lastBlock, chain, blocks, tag}
 use Rattle.cmac.specs.State.{addedAt, begun, absorb1, finished}
@@ -170,28 +171,9 @@ pub pieces : (E : List ℕ → List ℕ) (ps : List (List ℕ)) → finished E (
 pieces E ps = ap (finished E) (joined E begun ps) ∙ finish-tag E (flatten ps)
 
 -- bytes
-append-lt : (a b : List ℕ) → Bytes a → Bytes b → Bytes (a ++ b)
-append-lt [] b ha hb i = hb i
-append-lt (x ∷ a) b ha hb zero = ha 0
-append-lt (x ∷ a) b ha hb (suc i) = append-lt a b (λ k. ha (suc k)) hb i
-
-zeros-lt : (n : ℕ) → Bytes (replicate n 0)
-zeros-lt zero i = omega arith
-zeros-lt (suc n) zero = omega arith
-zeros-lt (suc n) (suc i) = zeros-lt n i
-
 one-lt : (b n : ℕ) → b < 256 → Bytes (b ∷ replicate n 0)
 one-lt b n h zero = h
 one-lt b n h (suc i) = zeros-lt n i
-
-take-lt : (n : ℕ) (m : List ℕ) → Bytes m → Bytes (take n m)
-take-lt zero m h i = omega arith
-take-lt (suc n) [] h i = omega arith
-take-lt (suc n) (a ∷ m) h zero = h 0
-take-lt (suc n) (a ∷ m) h (suc i) = take-lt n m (λ k. h (suc k)) i
-
-drop-lt : (n : ℕ) (m : List ℕ) → Bytes m → Bytes (drop n m)
-drop-lt n m h i = rw (getD-drop n m i 0) (h (n + i))
 
 blockAt-lt : (m : List ℕ) (i : ℕ) → Bytes m → Bytes (blockAt m i)
 unfolding blockAt

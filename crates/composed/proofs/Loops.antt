@@ -51,13 +51,20 @@ module _ (l : Lists) (place len k n start : ℕ) (ek : k ≡ pathCount l) (en : 
     pub path-stop : (r : ℕ) → w .answer ≡ No r → Passed badEntry (pathRun l place len) i → r ≡ firstOf badEntry (pathRun l place len)
     path-stop r q y = passed-stop badEntry (pathRun l place len) i p r in-run (ap badEntry the-entry ∙ sym (told-bad p w e r q)) (told-some p w e r q) y
 
+    six : length (w .bytes) ≡ 6
+    six = ap length (told-six p w e) ∙ six-length p
+
+    -- its six bytes, and the rest
+    pub six-ahead : joined sixOf (drop i (pathRun l place len)) ≡ w .bytes ++ joined sixOf (drop (i + 1) (pathRun l place len))
+    six-ahead =
+        joined-more sixOf (pathRun l place len) i p in-run
+        ∙ ap (λ (x : List ℕ). x ++ joined sixOf (drop (i + 1) (pathRun l place len))) (ap sixOf the-entry ∙ sym (told-six p w e))
+
     pub six-more : (o₀ out out2 : List ℕ) (at o : ℕ) → out2 ≡ put out (at + o) (w .bytes)
         → Joining o₀ at (joined sixOf (pathRun l place len)) out o (joined sixOf (drop i (pathRun l place len)))
         → Joining o₀ at (joined sixOf (pathRun l place len)) out2 (o + 6) (joined sixOf (drop (i + 1) (pathRun l place len)))
     six-more o₀ out out2 at o q j =
-        joining-more o₀ at (joined sixOf (pathRun l place len)) out o _ j (sixOf p) (joined sixOf (drop (i + 1) (pathRun l place len))) out2 6
-        (joined-more sixOf (pathRun l place len) i p in-run ∙ ap (λ (x : RelayPath). sixOf x ++ joined sixOf (drop (i + 1) (pathRun l place len))) the-entry)
-        (sym (six-length p)) (q ∙ ap (put out (at + o)) (told-six p w e))
+        joining-more o₀ at (joined sixOf (pathRun l place len)) out o _ j (w .bytes) (joined sixOf (drop (i + 1) (pathRun l place len))) out2 6 six-ahead (sym six) q
 
     pub six-room : (o₀ mid out : List ℕ) (at b o : ℕ) → mid ≡ put o₀ at (0 ∷ b ∷ [])
         → Joining mid (at + 2) (joined sixOf (pathRun l place len)) out o (joined sixOf (drop i (pathRun l place len)))
@@ -65,13 +72,16 @@ module _ (l : Lists) (place len k n start : ℕ) (ek : k ≡ pathCount l) (en : 
     six-room o₀ mid out at b o em j =
         let k : length mid ≡ length o₀ = ap length em ∙ put-length o₀ at (0 ∷ b ∷ []) in
         let r = joining-room mid (at + 2) (joined sixOf (pathRun l place len)) out o _ j in
-        let a = ap length (joined-more sixOf (pathRun l place len) i p in-run) in
-        let d = length-append (sixOf (getD (pathRun l place len) i p)) (joined sixOf (drop (i + 1) (pathRun l place len))) in
-        let f = six-length (getD (pathRun l place len) i p) in
+        let a = ap length six-ahead in
+        let d = length-append (w .bytes) (joined sixOf (drop (i + 1) (pathRun l place len))) in
+        let f = six in
         omega arith
 
   pub path-all : (i : ℕ) → n ≤ i → Passed badEntry (pathRun l place len) i → 0 ≡ firstOf badEntry (pathRun l place len)
   path-all i h w = passed-all badEntry (pathRun l place len) i (rw run-count h) w
+
+  pub six-none : (i : ℕ) → n ≤ i → joined sixOf (drop i (pathRun l place len)) ≡ []
+  six-none i h = joined-all sixOf (pathRun l place len) i (rw run-count h)
 
   pub path-bytes : length (joined sixOf (pathRun l place len)) ≡ 6 * n
   path-bytes = path-length l place len ∙ ap (λ (m : ℕ). 6 * m) (sym count)
@@ -94,7 +104,7 @@ module _ (l : Lists) (place len k n start : ℕ) (ek : k ≡ pathCount l) (en : 
       let m : b ≡ length (joined sixOf (pathRun l place len)) % 256 = eb ∙ ap (λ (x : ℕ). x % 256) (sym path-bytes) in
       let y = path-bytes in
       let g : at + length ((0 ∷ b ∷ []) ++ joined sixOf (pathRun l place len)) ≤ length o₀ = omega arith in
-      joining-done mid (at + 2) (joined sixOf (pathRun l place len)) out o _ j (joined-all sixOf (pathRun l place len) i (rw run-count h))
+      joining-done mid (at + 2) (joined sixOf (pathRun l place len)) out o _ j (six-none i h)
       ∙ ap (λ (x : List ℕ). put x (at + 2) (joined sixOf (pathRun l place len))) em
       ∙ puts-join o₀ at (0 ∷ b ∷ []) (joined sixOf (pathRun l place len)) (at + 2) refl g
       ∙ ap (λ (x : ℕ). put o₀ at (0 ∷ x ∷ joined sixOf (pathRun l place len))) m
@@ -158,7 +168,7 @@ module _ (ev : Bool) (count : ℕ) (l : Lists) where
           → r ≡ firstOf (faultOf pass ev l) (itemsIn l count)
       pass-stop pass r q z w = passed-stop (faultOf pass ev l) (itemsIn l count) i it r in-items (ap (faultOf pass ev l) the-item ∙ sym (q ∙ same-fault pass it)) z w
 
-      ahead : joined (itemWire ev l) (drop i (itemsIn l count)) ≡ itemWire ev l it ++ joined (itemWire ev l) (drop (i + 1) (itemsIn l count))
+      pub ahead : joined (itemWire ev l) (drop i (itemsIn l count)) ≡ itemWire ev l it ++ joined (itemWire ev l) (drop (i + 1) (itemsIn l count))
       ahead = joined-more (itemWire ev l) (itemsIn l count) i it in-items ∙ ap (λ (x : Composed). itemWire ev l x ++ joined (itemWire ev l) (drop (i + 1) (itemsIn l count))) the-item
 
       module _ (m : ℕ) (em : m ≡ length (itemWire ev (lent l) it)) where
@@ -201,6 +211,9 @@ module _ (ev : Bool) (count : ℕ) (l : Lists) where
             joining-more o₀ at _ out o _ j (itemWire ev l it) (joined (itemWire ev l) (drop (i + 1) (itemsIn l count))) out2 m ahead long
             (q ∙ ap (put out (at + o)) (same-wire it))
 
+    pub none-left : (i : ℕ) → n ≤ i → joined (itemWire ev l) (drop i (itemsIn l count)) ≡ []
+    none-left i h = joined-all (itemWire ev l) (itemsIn l count) i (rw items-count h)
+
     pub pass-all : (pass i : ℕ) → n ≤ i → Passed (faultOf pass ev l) (itemsIn l count) i
         → 0 ≡ firstOf (faultOf pass ev l) (itemsIn l count)
     pass-all pass i h w = passed-all (faultOf pass ev l) (itemsIn l count) i (rw items-count h) w
@@ -209,7 +222,7 @@ module _ (ev : Bool) (count : ℕ) (l : Lists) where
         → Sum sum ≡ totalOf most (length (composedBytes ev l count))
     unfolding composedBytes totalOf
     sum-all most i sum h s =
-        let a = ap length (joined-all (itemWire ev l) (itemsIn l count) i (rw items-count h)) in
+        let a = ap length (none-left i h) in
         let b = s .rest in
         let d = s .small in
         let g : length (joined (itemWire ev l) (itemsIn l count)) ≤ most = omega arith in
@@ -219,4 +232,4 @@ module _ (ev : Bool) (count : ℕ) (l : Lists) where
     pub item-all : (i : ℕ) (o₀ out : List ℕ) (at o : ℕ) → n ≤ i
         → Joining o₀ at (composedBytes ev l count) out o (joined (itemWire ev l) (drop i (itemsIn l count)))
         → out ≡ put o₀ at (composedBytes ev l count)
-    item-all i o₀ out at o h j = joining-done o₀ at _ out o _ j (joined-all (itemWire ev l) (itemsIn l count) i (rw items-count h))
+    item-all i o₀ out at o h j = joining-done o₀ at _ out o _ j (none-left i h)

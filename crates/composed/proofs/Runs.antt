@@ -1,13 +1,13 @@
--- Laws of a run in a list, of a path's entries and their six bytes. Assumes nothing.
+-- Laws of what stands at a place in the lists, of a run in a list, of a path's entries and their six bytes. Assumes nothing.
 use Prim.Native.Nat.{ℕ, zero, suc, _+_, _-_, _*_, _%_, _<_, _≤_}
-use native.Mathlib.Nat.{add-zero, add-suc, suc-add, le-of-suc-le-suc, not-suc-le-zero}
+use native.Mathlib.Nat.{not-suc-le-zero}
 use native.Mathlib.Omega.{arith}
 use mathlib.Core.Bool.{Bool, true, false, not}
 use mathlib.Core.Path.{_≡_, refl, sym, ap, _∙_}
 use mathlib.Core.List.{List, [], _∷_}
 use lib.Dec.{ltb, eqb}
 use lib.IntN.{ℤ, pos, negsuc}
-use lib.ListN.{length, getD, take, drop, length-append, length-drop}
+use lib.ListN.{length, getD, take, drop, length-append, length-drop, List·getD-eq-default}
 use lib.Seq.{length-take-le}
 use borrow.Author.Tests.{ltb-false, eqb-true, eq-eqb, ne-eqb}
 use Rattle.base.specs.Pick.{pick}
@@ -19,7 +19,6 @@ use Rattle.base.proofs.Lists.{from-length, from-at, imap-length}
 use Rattle.wire.specs.Number.{beBytes}
 use Rattle.wire.specs.Part.{reachOf, reachNumber, partOf}
 use Rattle.wire.specs.Run.{runRefusal}
-use Rattle.wire.specs.Lay.{put}
 use Rattle.wire.specs.declared.run.Run.{Run}
 use Rattle.wire.specs.declared.parts.Reach.the-variants.{Inside, Refused}
 use Rattle.fields.specs.Signal.{rssiByte, snrByte}
@@ -30,10 +29,31 @@ use Rattle.fields.specs.declared.path.PathBytes.{PathBytes}
 use Rattle.fields.specs.declared.signal.SignalByte.{SignalByte}
 use Rattle.fields.specs.declared.signal.SignalByte.the-variants.{Byte, Refused as NoByte}
 use Rattle.kept.specs.Kept.{headed, fixed, itemBytes}
-use Rattle.composed.specs.Composed.{Lists, paths, pathCount, pathAt, pathRun, isPath, valueOf, itemWire}
+use Rattle.composed.specs.Composed.{Lists, lists, paths, pathCount, pathAt, pathRun, itemIn, isPath, valueOf, itemWire}
 use Rattle.composed.specs.declared.Composed.{Composed}
 use Rattle.items.specs.Items.{isBeat, badBeat}
-use Rattle.composed.specs.Passes.{runAt, heldOf}
+use Rattle.composed.specs.Passes.{runAt, heldOf, pairAt}
+
+-- ---- at a place in the lists
+
+-- beyond the end stand zeros, as in a list of none
+module _ (l : List (List ℕ)) (i : ℕ) where
+  zeros : (k : ℕ) → _≡_ {A = ℕ} (getD (0 ∷ 0 ∷ []) k 0) 0
+  zeros zero = refl
+  zeros (suc zero) = refl
+  zeros (suc (suc k)) = refl
+
+  pair-at : (k : ℕ) → getD (pairAt l i) k 0 ≡ getD (getD l i []) k 0
+  unfolding pairAt
+  pair-at k = go (ltb i (length l)) refl
+    where
+      go : (t : Bool) → ltb i (length l) ≡ t → getD (pick t (getD l i []) (0 ∷ 0 ∷ [])) k 0 ≡ getD (getD l i []) k 0
+      go true e = refl
+      go false e = zeros k ∙ sym (ap (λ (x : List ℕ). getD x k 0) (List·getD-eq-default l [] (ltb-false i (length l) e)))
+
+pub item-is : (kinds spans : List (List ℕ)) (i : ℕ) (a b : List ℕ) → a ≡ pairAt kinds i → b ≡ pairAt spans i
+    → record { kind = getD a 0 0; tag = getD a 1 0; place = getD b 0 0; len = getD b 1 0 } ≡ itemIn (lists kinds spans [] [] [] []) i
+item-is kinds spans i a b p q = rw (p, q, pair-at kinds i 0, pair-at kinds i 1, pair-at spans i 0, pair-at spans i 1)
 
 -- ---- a run in a list of n
 
@@ -218,16 +238,14 @@ module _ (ev : Bool) (l : Lists) (it : Composed) where
       let b = imap-length (fixed (isBeat ev (it .tag))) 0 (partOf (l .src) (it .place) (it .len)) in
       rw t (omega arith)
 
-  -- and laid
-  pub path-laid : isPath ev it ≡ true → (o out : List ℕ) (at : ℕ) → out ≡ put o at (headed 0 (joined sixOf (pathRun (paths (l .ids) (l .rssis) (l .snrs)) (it .place) (it .len))))
-      → out ≡ put o at (itemWire ev l it)
+  -- and what it is
+  pub path-wire : isPath ev it ≡ true → itemWire ev l it ≡ headed 0 (joined sixOf (pathRun (paths (l .ids) (l .rssis) (l .snrs)) (it .place) (it .len)))
   unfolding itemWire valueOf pathRun
-  path-laid t o out at q = rw t q
+  path-wire t = rw t
 
-  pub value-laid : isPath ev it ≡ false → (o out v : List ℕ) (at : ℕ) (b : Bool) (run : Run) → b ≡ isBeat ev (it .tag) → run ≡ runAt (it .place) (it .len)
-      → v ≡ partOf (l .src) (run .start) (run .len) → out ≡ put o at (itemBytes b (it .tag) v)
-      → out ≡ put o at (itemWire ev l it)
+  pub value-wire : isPath ev it ≡ false → (v : List ℕ) (b : Bool) (run : Run) → b ≡ isBeat ev (it .tag) → run ≡ runAt (it .place) (it .len)
+      → v ≡ partOf (l .src) (run .start) (run .len) → itemWire ev l it ≡ itemBytes b (it .tag) v
   unfolding itemWire valueOf itemBytes
-  value-laid t o out v at b run eb er ev2 q =
-      let w : v ≡ partOf (l .src) (it .place) (it .len) = ev2 ∙ ap (λ (r : Run). partOf (l .src) (r .start) (r .len)) er in
-      rw (t, ← w, ← eb) q
+  value-wire t v b run eb er q =
+      let w : v ≡ partOf (l .src) (it .place) (it .len) = q ∙ ap (λ (r : Run). partOf (l .src) (r .start) (r .len)) er in
+      rw (t, w, eb)

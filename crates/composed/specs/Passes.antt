@@ -1,8 +1,10 @@
--- What the functions inside cite: one pass by its number, how much of a run a list holds, and a sum that may be over. Assumes nothing.
+-- What the functions inside cite: one pass by its number, how much of a run a list holds, a pair at a place, and a sum that may be over.
+-- Assumes nothing.
 use Prim.Native.Nat.{ℕ}
 use mathlib.Core.Bool.{Bool}
+use mathlib.Core.List.{List, [], _∷_}
 use lib.Dec.{ltb, eqb}
-use lib.ListN.{length}
+use lib.ListN.{length, getD}
 use Rattle.base.specs.Pick.{pick}
 use Rattle.wire.specs.Run.{runRefusal}
 use Rattle.wire.specs.declared.run.Run.{Run}
@@ -17,6 +19,10 @@ runAt place len = record { start = place; len = len }
 -- all of a run, or nothing where it lies outside a list of n
 unfoldable pub heldOf : ℕ → ℕ → ℕ → ℕ
 heldOf n place len = pick (eqb (runRefusal n (runAt place len)) 0) len 0
+
+-- zeros beyond the list's end
+unfoldable pub pairAt : List (List ℕ) → ℕ → List ℕ
+pairAt l i = pick (ltb i (length l)) (getD l i []) (0 ∷ 0 ∷ [])
 
 -- how long the list is that an item's place and length are in
 abbrev pub reachFor : Bool → Lists → ℕ

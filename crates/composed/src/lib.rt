@@ -2,9 +2,10 @@
 ghost use mathlib.Core.Path.{_≡_};
 ghost use mathlib.Core.List.{[]};
 ghost use mathlib.Core.Bool.{not, false as no};
-ghost use Prim.Native.Nat.{_<_, min};
+ghost use Prim.Native.Nat.{min};
 ghost use lib.Dec.{eqb, ltb};
-ghost use lib.ListN.{length};
+ghost use lib.IntN.{pos};
+ghost use lib.ListN.{length, getD};
 ghost use Rattle.base.specs.Pick.{pick};
 ghost use Rattle.base.specs.Lists.{firstOf, joined};
 ghost use Rattle.base.specs.Numbers.{itemLong, heartbeatLength, itemMost, pathMost};
@@ -13,7 +14,7 @@ ghost use Rattle.fields.specs.Path.{pathBytes, badEntry, sixOf};
 ghost use Rattle.items.specs.Items.{badBeat};
 ghost use Rattle.kept.specs.Kept.{headed};
 ghost use Rattle.composed.specs.Composed.{lists, paths, pathCount, pathAt, pathRun, itemIn, itemsIn, itemWire, verdictOf, composedBytes, capped};
-ghost use Rattle.composed.specs.Passes.{runAt, heldOf, reachFor, faultOf, totalOf};
+ghost use Rattle.composed.specs.Passes.{runAt, heldOf, pairAt, reachFor, faultOf, totalOf};
 use base::Checked;
 use base::Limit;
 use base::Refusal;
@@ -27,11 +28,11 @@ use wire::Run;
 use wire::put_all;
 
 // One item, as it stands in the lists.
-struct Composed {
-    kind: u8,
-    tag: u8,
-    place: u32,
-    len: u32,
+pub struct Composed {
+    pub kind: u8,
+    pub tag: u8,
+    pub place: u32,
+    pub len: u32,
 }
 
 // A sum, unless it is over what it may be at most.
@@ -46,7 +47,7 @@ fn size_of(n: u32) -> usize
     n as usize
 }
 
-fn run_of(place: u32, len: u32) -> Run
+pub fn run_of(place: u32, len: u32) -> Run
     ensures { λ r. ⌜ r ≡ runAt place len ⌝ }
 {
     Run {
@@ -56,7 +57,7 @@ fn run_of(place: u32, len: u32) -> Run
 }
 
 // How many of a run there are in a list of n: all, or none where it runs outside.
-fn held(n: usize, place: u32, len: u32) -> usize
+pub fn held(n: usize, place: u32, len: u32) -> usize
     ensures { λ r. ⌜ r ≡ heldOf n place len ⌝ }
 {
     if run_of(place, len).refusal(n) == 0 {
@@ -66,21 +67,47 @@ fn held(n: usize, place: u32, len: u32) -> usize
 }
 
 // ---- the entries of paths
-fn path_count(ids: &[u32], rssis: &[i16], snrs: &[i8]) -> usize
+pub fn path_count(ids: &[u32], rssis: &[i16], snrs: &[i8]) -> usize
     ensures { λ r. ⌜ r ≡ pathCount (paths (now (ids .entry)) (now (rssis .entry)) (now (snrs .entry))) ⌝ }
 {
     least(ids.len(), least(rssis.len(), snrs.len()))
 }
 
-// An entry as it is written, or why it is not.
-fn entry(i: usize, ids: &[u32], rssis: &[i16], snrs: &[i8]) -> PathBytes
-    requires { ⌜ i < pathCount (paths (now ids) (now rssis) (now snrs)) ⌝ }
+fn id_at(ids: &[u32], i: usize) -> u32
+    ensures { λ r. ⌜ r ≡ getD (now (ids .entry)) i 0 ⌝ }
+{
+    if i < ids.len() {
+        return ids[i];
+    }
+    0
+}
+
+fn rssi_at(rssis: &[i16], i: usize) -> i16
+    ensures { λ r. ⌜ r ≡ getD (now (rssis .entry)) i (pos 0) ⌝ }
+{
+    if i < rssis.len() {
+        return rssis[i];
+    }
+    0
+}
+
+fn snr_at(snrs: &[i8], i: usize) -> i8
+    ensures { λ r. ⌜ r ≡ getD (now (snrs .entry)) i (pos 0) ⌝ }
+{
+    if i < snrs.len() {
+        return snrs[i];
+    }
+    0
+}
+
+// An entry as it is written, or why it is not; beyond a list's end stands 0.
+pub fn entry(i: usize, ids: &[u32], rssis: &[i16], snrs: &[i8]) -> PathBytes
     ensures { λ r. ⌜ r ≡ pathBytes (pathAt (paths (now (ids .entry)) (now (rssis .entry)) (now (snrs .entry))) i) ⌝ }
 {
     let p = RelayPath {
-        relay_id: ids[i],
-        rssi: rssis[i],
-        snr: snrs[i],
+        relay_id: id_at(ids, i),
+        rssi: rssi_at(rssis, i),
+        snr: snr_at(snrs, i),
     };
     p.to_bytes()
 }
@@ -104,18 +131,36 @@ fn bad_run(place: u32, len: u32, ids: &[u32], rssis: &[i16], snrs: &[i8]) -> u8
 }
 
 // ---- the items
-fn item_count(count: usize, kinds: &[[u8; 2]], spans: &[[u32; 2]]) -> usize
+pub fn item_count(count: usize, kinds: &[[u8; 2]], spans: &[[u32; 2]]) -> usize
     ensures { λ r. ⌜ r ≡ min count (min (length (now (kinds .entry))) (length (now (spans .entry)))) ⌝ }
 {
     least(count, least(kinds.len(), spans.len()))
 }
 
-fn item_at(i: usize, kinds: &[[u8; 2]], spans: &[[u32; 2]]) -> Composed
-    requires { ⌜ i < min (length (now kinds)) (length (now spans)) ⌝ }
+fn kind_at(kinds: &[[u8; 2]], i: usize) -> [u8; 2]
+    ensures { λ r. ⌜ r ≡ pairAt (now (kinds .entry)) i ⌝ }
+{
+    if i < kinds.len() {
+        return kinds[i];
+    }
+    [0u8; 2]
+}
+
+fn span_at(spans: &[[u32; 2]], i: usize) -> [u32; 2]
+    ensures { λ r. ⌜ r ≡ pairAt (now (spans .entry)) i ⌝ }
+{
+    if i < spans.len() {
+        return spans[i];
+    }
+    [0u32; 2]
+}
+
+// An item as it stands in the lists; beyond a list's end stand zeros.
+pub fn item_at(i: usize, kinds: &[[u8; 2]], spans: &[[u32; 2]]) -> Composed
     ensures { λ r. ⌜ r ≡ itemIn (lists (now (kinds .entry)) (now (spans .entry)) [] [] [] []) i ⌝ }
 {
-    let kind = kinds[i];
-    let span = spans[i];
+    let kind = kind_at(kinds, i);
+    let span = span_at(spans, i);
     Composed {
         kind: kind[0],
         tag: kind[1],
@@ -124,7 +169,7 @@ fn item_at(i: usize, kinds: &[[u8; 2]], spans: &[[u32; 2]]) -> Composed
     }
 }
 
-fn is_path(is_event: bool, kind: u8) -> bool
+pub fn is_path(is_event: bool, kind: u8) -> bool
     ensures { λ r. ⌜ r ≡ pick «is_event» (not (eqb kind 0)) no ⌝ }
 {
     if is_event {

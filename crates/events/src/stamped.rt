@@ -282,6 +282,13 @@ impl EventPayload {
         }
     }
 
+    // All that comes before the items.
+    pub fn head(self) -> [u8; 8]
+        ensures { λ r. ⌜ r ≡ stamp (self .timestamp) (self .«relay_id») ⌝ }
+    {
+        self.stamped().head()
+    }
+
     // The body: 45, path entries, 19, 20, 5, 21.
     pub fn write<'a>(
         self,
@@ -432,6 +439,13 @@ impl CommandPayload {
             relay_id: self.relay_id,
             body,
         }
+    }
+
+    // All that comes before the items.
+    pub fn head(self) -> [u8; 8]
+        ensures { λ r. ⌜ r ≡ stamp (self .timestamp) (self .«relay_id») ⌝ }
+    {
+        self.stamped().head()
     }
 
     // The body: 45, path entries, 19, 20, 5, 21.

@@ -11,6 +11,7 @@ use borrow.Author.Tests.{le-ltb, eq-eqb, ne-eqb, eqb-true, eqb-false}
 use Rattle.base.specs.Pick.{pick}
 use Rattle.base.specs.Lists.{from, Bytes}
 use Rattle.base.specs.Answers.{Frame, bytes}
+use Rattle.base.proofs.Bytes.{take-lt, drop-lt}
 use Rattle.base.proofs.Lists.{from-same}
 use Rattle.wire.specs.Part.{reachOf, partOf}
 use Rattle.fields.specs.Header.{headerOf, codeOf}
@@ -57,15 +58,8 @@ use Rattle.packets.specs.declared.mesh.MeshRead.the-variants.{Mesh}
 use Rattle.trips.proofs.Which.{body-length}
 use Rattle.trips.proofs.Again.{Read, was-read, read-written}
 
--- a part of bytes is bytes
-take-bytes : (n : ℕ) (s : List ℕ) → Bytes s → Bytes (take n s)
-take-bytes zero s h i = omega arith
-take-bytes (suc n) [] h i = omega arith
-take-bytes (suc n) (x ∷ s) h zero = h 0
-take-bytes (suc n) (x ∷ s) h (suc i) = take-bytes n s (λ k. h (suc k)) i
-
-body-bytes : (s : List ℕ) → Bytes s → Bytes (bodyIn s)
-body-bytes s h = take-bytes (length s - 4 - 1) (drop 1 s) (λ i. subst (λ (x : ℕ). x < 256) (sym (getD-drop 1 s i 0)) (h (1 + i)))
+pub body-bytes : (s : List ℕ) → Bytes s → Bytes (bodyIn s)
+body-bytes s h = take-lt (length s - 4 - 1) (drop 1 s) (drop-lt 1 s h)
 
 -- the type in a header byte
 kind-by : (x : ℕ) (h : MHDR) → headerOf x ≡ Header h → (t : Bool) → eqb (x / 32) 7 ≡ t → codeOf (h .«payload_type») ≡ x / 8 % 4
@@ -75,7 +69,7 @@ kind-by x h e true q =
     rw (← r) (m .code)
 kind-by x h e false q = let z : _≡_ {A = ℕ} 0 1 = cc (not-marked x (eqb-false _ _ q)) in absurd (omega arith)
 
-kind-is : (x : ℕ) (h : MHDR) → headerOf x ≡ Header h → codeOf (h .«payload_type») ≡ x / 8 % 4
+pub kind-is : (x : ℕ) (h : MHDR) → headerOf x ≡ Header h → codeOf (h .«payload_type») ≡ x / 8 % 4
 kind-is x h e = kind-by x h e (eqb (x / 32) 7) refl
 
 -- the front of a list by its index
@@ -118,7 +112,7 @@ module _ (s : List ℕ) (least : 5 ≤ length s) where
       ap (λ (x : List ℕ). (getD s 0 0 ∷ b) ++ x) (sym r) ∙ ap (λ (x : List ℕ). getD s 0 0 ∷ x) (sym behind-first) ∙ sym c
 
   -- the run behind a head of k bytes is the rest of the body
-  run-is : (k : ℕ) → k ≤ length b → partOf s (k + 1) (length b - k) ≡ drop k b
+  pub run-is : (k : ℕ) → k ≤ length b → partOf s (k + 1) (length b - k) ≡ drop k b
   unfolding partOf
   run-is k h =
       let d : drop (k + 1) s ≡ drop k b ++ rest =
@@ -185,7 +179,7 @@ module _ (s : List ℕ) (least : 5 ≤ length s) where
         ap (λ (y : Body). headedBy (stamp (u .timestamp) (u .«relay_id»)) (bodyWire false (framed s x) y)) (w .body-is)
         ∙ sealed-by false (u .timestamp) (u .«relay_id») (eqb (length b - 8) 0) (w .least) refl (command-again 1 b u bs e)
 
-    abbrev clearedBody : PayloadType → List ℕ
+    abbrev pub clearedBody : PayloadType → List ℕ
     clearedBody Uplink = set b 3 (getD b 3 0 % 64)
     clearedBody Downlink = b
     clearedBody Event = b
@@ -215,21 +209,21 @@ module _ (s : List ℕ) (least : 5 ≤ length s) where
     least-up (NoUplink k) q e y2 = let z : _≡_ {A = ℕ} 0 1 = cc in absurd (omega arith)
     least-up (UplinkIs u) q e y2 = let w = uplink-was 1 b u e in omega arith
 
-    body-again : (t : PayloadType) (q : Payload) → payloadAt t b ≡ PayloadIs q → payloadWire (framed s x) q ≡ bytes (clearedBody t)
+    pub body-again : (t : PayloadType) (q : Payload) → payloadAt t b ≡ PayloadIs q → payloadWire (framed s x) q ≡ bytes (clearedBody t)
     unfolding payloadAt
     body-again Uplink q e = of-up (uplinkAt 1 b) q refl e
     body-again Downlink q e = of-down (downlinkAt 1 b) q refl e
     body-again Event q e = of-event (eventAt 1 b) q refl e
     body-again Command q e = of-command (commandAt 1 b) q refl e
 
-    cleared-length : (t : PayloadType) → length (clearedBody t) ≡ length b
+    pub cleared-length : (t : PayloadType) → length (clearedBody t) ≡ length b
     cleared-length Uplink = length-set b 3 (getD b 3 0 % 64)
     cleared-length Downlink = refl
     cleared-length Event = refl
     cleared-length Command = refl
 
     -- with header byte and MIC, that is the whole frame with the two bits cleared
-    cleared-is : (t : PayloadType) (q : Payload) → payloadAt t b ≡ PayloadIs q → codeOf t ≡ getD s 0 0 / 8 % 4 → (getD s 0 0 ∷ clearedBody t) ++ drop (length s - 4) s ≡ cleared s
+    pub cleared-is : (t : PayloadType) (q : Payload) → payloadAt t b ≡ PayloadIs q → codeOf t ≡ getD s 0 0 / 8 % 4 → (getD s 0 0 ∷ clearedBody t) ++ drop (length s - 4) s ≡ cleared s
     unfolding cleared payloadAt
     cleared-is Uplink q p e =
         let l = least-up (uplinkAt 1 b) q refl p in

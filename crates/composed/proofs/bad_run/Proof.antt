@@ -22,9 +22,6 @@ loop-holds c = passed-none _ _
 add-entry : tie.Need-add-entry Inv-loop μ-loop
 add-entry c = let a = c .before .before .before .before .before .before .args in let h = entry-in (paths (now (a .ids)) (now (a .rssis)) (now (a .snrs))) _ _ _ _ _ (c .before .before .before .before .path-count .ensures) (c .before .before .before .held .ensures) (c .before .before .size-of .ensures) _ (c .loop-test .taken) in omega arith
 
-entry-requires : tie.Need-entry-requires Inv-loop μ-loop
-entry-requires c κs = let a = c .before .before .before .before .before .before .args in entry-in (paths (now (a .ids)) (now (a .rssis)) (now (a .snrs))) _ _ _ _ _ (c .before .before .before .before .path-count .ensures) (c .before .before .before .held .ensures) (c .before .before .size-of .ensures) _ (c .loop-test .taken)
-
 loop-again : tie.Need-loop-again Inv-loop μ-loop
 loop-again c = path-more _ _ _ _ _ _ (c .before .before .before .before .before .before .before .path-count .ensures) (c .before .before .before .before .before .before .held .ensures) (c .before .before .before .before .before .size-of .ensures) _ _ (c .before .before .before .loop-test .taken) (c .before .before .entry .ensures) (c .enum-told .given .1) (c .before .before .before .before .loop .inv)
 
@@ -35,4 +32,4 @@ returns-2 : tie.Need-returns-2 Inv-loop μ-loop
 returns-2 c = path-all _ _ _ _ _ _ (c .before .before .before .before .path-count .ensures) (c .before .before .before .held .ensures) (c .before .before .size-of .ensures) _ (c .loop-test .left) (c .before .loop .inv)
 
 pub bad-run-spec : {M : Type 1} → statement M
-bad-run-spec = tie.close (tie.spec Inv-loop μ-loop (λ c κs. tt) (λ c κs. tt) (λ c κs. tt) loop-holds add-entry entry-requires (λ c. search needs) (λ c. search needs) (λ c. search needs) loop-again (λ c. search needs) returns returns-2)
+bad-run-spec = tie.close (tie.spec Inv-loop μ-loop (λ c κs. tt) (λ c κs. tt) (λ c κs. tt) loop-holds add-entry (λ c κs. tt) (λ c. search needs) (λ c. search needs) (λ c. search needs) loop-again (λ c. search needs) returns returns-2)

@@ -28,4 +28,4 @@ returns-2 : tie.Need-returns-2 Inv-loop μ-loop
 returns-2 c = pass-all _ _ _ _ (c .before .before .item-count .ensures) _ _ (c .loop-test .left) (c .before .loop .inv)
 
 pub first-spec : {M : Type 1} → statement M
-first-spec = tie.close (tie.spec Inv-loop μ-loop (λ c κs. tt) loop-holds (λ c κs. search needs) (λ c κs. tt) returns (λ c. search needs) (λ c. search needs) loop-again returns-2)
+first-spec = tie.close (tie.spec Inv-loop μ-loop (λ c κs. tt) loop-holds (λ c κs. tt) (λ c κs. tt) returns (λ c. search needs) (λ c. search needs) loop-again returns-2)

@@ -43,4 +43,4 @@ returns-3 : tie.Need-returns-3 Inv-loop μ-loop
 returns-3 c = item-all _ _ _ _ (c .before .before .item-count .ensures) _ _ _ _ _ (c .loop-test .left) (c .before .loop .inv)
 
 pub put-composed-spec : {M : Type 1} → statement M
-put-composed-spec = tie.close (tie.spec Inv-loop μ-loop returns (λ c. search needs) (λ c κs. tt) (λ c. search needs) (λ c. search needs) returns-2 (λ c κs. tt) loop-holds (λ c κs. search needs) add-lay-item (λ c κs. tt) (λ c κs. tt) add-o (λ c. search needs) (λ c. search needs) loop-again same-length returns-3)
+put-composed-spec = tie.close (tie.spec Inv-loop μ-loop returns (λ c. search needs) (λ c κs. tt) (λ c. search needs) (λ c. search needs) returns-2 (λ c κs. tt) loop-holds (λ c κs. tt) add-lay-item (λ c κs. tt) (λ c κs. tt) add-o (λ c. search needs) (λ c. search needs) loop-again same-length returns-3)

@@ -42,9 +42,6 @@ loop-holds c = let a = c .before .before .before .before .before .before .before
 add-entry : tie.Need-add-entry Inv-loop μ-loop
 add-entry c = let a = c .before .before .before .before .before .before .before .before .before .before .before .before .before .before .before .args in let h = entry-in (paths (now (a .ids)) (now (a .rssis)) (now (a .snrs))) (a .place) (a .len) _ _ _ (c .before .before .before .before .before .before .before .before .before .before .before .before .path-count .ensures) (c .before .before .before .before .before .before .before .before .before .before .before .held .ensures) (c .before .before .size-of .ensures) _ (c .loop-test .taken) in omega arith
 
-entry-requires : tie.Need-entry-requires Inv-loop μ-loop
-entry-requires c κs = let a = c .before .before .before .before .before .before .before .before .before .before .before .before .before .before .before .args in entry-in (paths (now (a .ids)) (now (a .rssis)) (now (a .snrs))) (a .place) (a .len) _ _ _ (c .before .before .before .before .before .before .before .before .before .before .before .before .path-count .ensures) (c .before .before .before .before .before .before .before .before .before .before .before .held .ensures) (c .before .before .size-of .ensures) _ (c .loop-test .taken)
-
 add-put-all : tie.Need-add-put-all Inv-loop μ-loop
 add-put-all c = let a = c .before .before .before .before .before .before .before .before .before .before .before .before .before .before .before .before .before .before .before .args in let h = six-room (paths (now (a .ids)) (now (a .rssis)) (now (a .snrs))) (a .place) (a .len) _ _ _ (c .before .before .before .before .before .before .before .before .before .before .before .before .before .before .before .before .path-count .ensures) (c .before .before .before .before .before .before .before .before .before .before .before .before .before .before .before .held .ensures) (c .before .before .before .before .before .before .size-of .ensures) _ _ (c .before .before .before .before .loop-test .taken) (c .before .before .before .entry .ensures) (now (a .out)) _ _ (a .at) _ _ (c .before .before .before .before .before .before .before .before .before .put-all .ensures) (c .before .before .before .before .before .loop .inv) in omega (arith, c .before .before .before .before .before .before .before .before .before .before .before .before .before .before .before .before .before .before .before .good .1 .1 .1 .1 .1 .0 .0)
 
@@ -61,4 +58,4 @@ returns-3 : tie.Need-returns-3 Inv-loop μ-loop
 returns-3 c = let a = c .before .before .before .before .before .before .before .before .before .before .before .before .before .before .before .args in path-done (paths (now (a .ids)) (now (a .rssis)) (now (a .snrs))) (a .place) (a .len) _ _ _ (c .before .before .before .before .before .before .before .before .before .before .before .before .path-count .ensures) (c .before .before .before .before .before .before .before .before .before .before .before .held .ensures) (c .before .before .size-of .ensures) _ _ (a .at) _ (now (a .out)) _ _ (c .loop-test .left) (omega arith) (c .before .before .before .before .before .before .before .before .low-byte .ensures) (c .before .before .before .before .before .put-all .ensures) (c .before .loop .inv)
 
 pub put-path-spec : {M : Type 1} → statement M
-put-path-spec = tie.close (tie.spec Inv-loop μ-loop (λ c κs. tt) (λ c κs. tt) returns (λ c. search needs) mul-if2 add-if2 returns-2 mul-low-byte (λ c κs. tt) (λ c. search needs) (λ c κs. tt) (λ c κs. tt) (λ c. search needs) loop-holds add-entry entry-requires (λ c. search needs) add-put-all (λ c κs. tt) add-o (λ c. search needs) (λ c. search needs) loop-again same-length returns-3)
+put-path-spec = tie.close (tie.spec Inv-loop μ-loop (λ c κs. tt) (λ c κs. tt) returns (λ c. search needs) mul-if2 add-if2 returns-2 mul-low-byte (λ c κs. tt) (λ c. search needs) (λ c κs. tt) (λ c κs. tt) (λ c. search needs) loop-holds add-entry (λ c κs. tt) (λ c. search needs) add-put-all (λ c κs. tt) add-o (λ c. search needs) (λ c. search needs) loop-again same-length returns-3)

@@ -1,0 +1,3 @@
+pub mod Fixed
+pub mod Bytes
+pub mod Steps

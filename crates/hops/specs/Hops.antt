@@ -1,0 +1,42 @@
+-- The hop edit: exactly what reading, setting the count, signing and writing afresh gives. Over any block cipher E. Assumes nothing.
+use Prim.Native.Nat.{ℕ}
+use mathlib.Core.List.{List, []}
+use Rattle.base.specs.Answers.{Frame, bytes, refused}
+use Rattle.bodies.specs.Body.{Lent, lent}
+use Rattle.packets.specs.Read.{meshOf}
+use Rattle.packets.specs.Write.{meshFrame}
+use Rattle.packets.specs.declared.mesh.MeshPacket.{MeshPacket}
+use Rattle.packets.specs.declared.mesh.MeshRead.{MeshRead}
+use Rattle.packets.specs.declared.mesh.MeshRead.the-variants.{Mesh, Refused}
+use Rattle.mic.specs.Mic.{setMic}
+
+-- a received frame, beside which nothing is lent
+abbrev pub alone : List ℕ → Lent
+alone s = lent s [] [] [] [] [] []
+
+-- the packet with another hop count
+abbrev pub counted : MeshPacket → ℕ → MeshPacket
+counted p n =
+    record {
+      mhdr = record { «payload_type» = p .mhdr .«payload_type»; «hop_count» = n };
+      payload = p .payload;
+      «has_mic» = p .«has_mic»;
+      mic = p .mic;
+    }
+
+abbrev pub writtenOf : Lent → MeshRead → Frame
+writtenOf l (Refused k) = refused k
+writtenOf l (Mesh p) = meshFrame l p
+
+abbrev pub signedAnew : (List ℕ → List ℕ) → List ℕ → ℕ → MeshRead → Frame
+signedAnew E s n (Refused k) = refused k
+signedAnew E s n (Mesh p) = writtenOf (alone s) (setMic E (alone s) (counted p n))
+
+-- read, set the count, sign, write: the frame, or the first refusal of these in turn
+unfoldable pub hopEdit : (List ℕ → List ℕ) → List ℕ → ℕ → Frame
+hopEdit E s n = signedAnew E s n (meshOf s)
+
+-- what the edit leaves in the buffer: the frame as it was where it refuses
+abbrev pub leaves : Frame → List ℕ → List ℕ
+leaves (refused n) s = s
+leaves (bytes w) s = w

@@ -1,0 +1,47 @@
+-- `mic::make` meets its contract. Assumes nothing.
+use mathlib.Core.Path.{sym, ap, _∙_}
+use mathlib.Core.Bool.{true, false}
+use mathlib.Core.List.{List}
+use Prim.Native.Nat.{ℕ}
+use denote.Ref.{now}
+use Rattle.fips197.specs.Aes.{aes}
+use Rattle.bodies.specs.Body.{lent, bodyWire}
+use Rattle.events.specs.Write.{headedBy, stampedWire, eventWire, commandWire}
+use Rattle.packets.specs.Write.{payloadWire}
+use Rattle.mic.proofs.Steps.{header-refused, header-byte}
+use borrow.Author.Needs.{needs}
+use Rattle.mic.proofs.make.Statement.{statement}
+use Rattle.mic.proofs.make.Tie as tie
+
+returns : tie.Need-returns
+returns c = let a = c .before .before .before .before .before .before .before .before .args in
+    header-refused (aes (a .key .0)) _ (lent (now (a .frame)) (now (a .work)) (now (a .kinds)) (now (a .spans)) (now (a .ids)) (now (a .rssis)) (now (a .snrs))) (a .p) (sym (c .before .n .given .1) ∙ c .before .before .before .to-byte .ensures)
+
+returns-2 : tie.Need-returns-2
+unfolding payloadWire
+returns-2 c = let a = c .before .before .before .before .before .before .before .before .before .before .before .before .args in
+    let l = (lent (now (a .frame)) (now (a .work)) (now (a .kinds)) (now (a .spans)) (now (a .ids)) (now (a .rssis)) (now (a .snrs))) in
+    header-byte (aes (a .key .0)) _ l (a .p) _ _ (sym (c .before .before .before .before .before .b .given .1) ∙ c .before .before .before .before .before .before .before .to-byte .ensures) (ap (payloadWire l) (c .before .before .payload .given .1)) (c .sign-uplink .ensures)
+
+returns-3 : tie.Need-returns-3
+unfolding payloadWire
+returns-3 c = let a = c .before .before .before .before .before .before .before .before .before .before .before .before .args in
+    let l = (lent (now (a .frame)) (now (a .work)) (now (a .kinds)) (now (a .spans)) (now (a .ids)) (now (a .rssis)) (now (a .snrs))) in
+    header-byte (aes (a .key .0)) _ l (a .p) _ _ (sym (c .before .before .before .before .before .b .given .1) ∙ c .before .before .before .before .before .before .before .to-byte .ensures) (ap (payloadWire l) (c .before .before .payload2 .given .1)) (c .sign-downlink .ensures)
+
+returns-4 : tie.Need-returns-4
+unfolding payloadWire eventWire stampedWire
+returns-4 c = let a = c .before .before .before .before .before .before .before .before .before .before .before .before .before .before .args in
+    let l = (lent (now (a .frame)) (now (a .work)) (now (a .kinds)) (now (a .spans)) (now (a .ids)) (now (a .rssis)) (now (a .snrs))) in
+    header-byte (aes (a .key .0)) _ l (a .p) _ _ (sym (c .before .before .before .before .before .before .before .b .given .1) ∙ c .before .before .before .before .before .before .before .before .before .to-byte .ensures)
+    (ap (payloadWire l) (c .before .before .before .before .payload3 .given .1) ∙ ap (λ (h : List ℕ). headedBy h (bodyWire true l (c .before .before .before .before .payload3 .given .0 .0 .events))) (sym (c .before .before .head .ensures))) (c .sign-body .ensures)
+
+returns-5 : tie.Need-returns-5
+unfolding payloadWire commandWire stampedWire
+returns-5 c = let a = c .before .before .before .before .before .before .before .before .before .before .before .before .before .before .args in
+    let l = (lent (now (a .frame)) (now (a .work)) (now (a .kinds)) (now (a .spans)) (now (a .ids)) (now (a .rssis)) (now (a .snrs))) in
+    header-byte (aes (a .key .0)) _ l (a .p) _ _ (sym (c .before .before .before .before .before .before .before .b .given .1) ∙ c .before .before .before .before .before .before .before .before .before .to-byte .ensures)
+    (ap (payloadWire l) (c .before .before .before .before .payload4 .given .1) ∙ ap (λ (h : List ℕ). headedBy h (bodyWire false l (c .before .before .before .before .payload4 .given .0 .0 .commands))) (sym (c .before .before .head3 .ensures))) (c .sign-body2 .ensures)
+
+pub make-spec : {M : Type 1} → statement M
+make-spec = tie.close (tie.spec (λ c κs. search needs) (λ c. search needs) (λ c. search needs) (λ c. search needs) (λ c κs. search needs) (λ c. search needs) (λ c κs. search needs) (λ c. search needs) (λ c κs. search needs) (λ c. search needs) (λ c κs. search needs) (λ c. search needs) (λ c κs. search needs) (λ c. search needs) (λ c κs. search needs) returns returns-2 returns-3 returns-4 returns-5)

@@ -1,0 +1,2 @@
+pub mod Mic
+pub mod Made

@@ -1,0 +1,272 @@
+// A packet signed and validated. The message goes to CMAC in pieces, as it would be written; nothing of it is laid out.
+ghost use mathlib.Core.Path.{_≡_};
+ghost use mathlib.Core.List.{_∷_, _++_};
+ghost use lib.ListN.{take};
+ghost use Rattle.base.specs.Answers.{bytes};
+ghost use Rattle.wire.specs.Number.{beOf};
+ghost use Rattle.fips197.specs.Aes.{aes};
+ghost use Rattle.bodies.specs.Body.{lent, bodyWire};
+ghost use Rattle.payloads.specs.Write.{prefixed, uplinkWire, downlinkWire};
+ghost use Rattle.events.specs.Write.{headedBy};
+ghost use Rattle.mic.specs.Mic.{fitting, signedOf, setMic, validateMic};
+ghost use Rattle.mic.specs.Made.{madeOf};
+use absorbed::absorb_body;
+use aes128::Aes128Key;
+use aes128::prepare;
+use base::Checked;
+use base::Limit;
+use base::Refusal;
+use bodies::Body;
+use cmac::Mac;
+use fields::HeaderByte;
+use packets::MeshPacket;
+use packets::MeshRead;
+use packets::Payload;
+use payloads::DownlinkPayload;
+use payloads::UplinkPayload;
+use wire::be32_of;
+
+pub enum Validated {
+    Valid,
+    Invalid,
+    Refused(u8),
+}
+
+enum Made {
+    Mic(u32),
+    Refused(u8),
+}
+
+// The first four bytes of a tag.
+fn number(tag: [u8; 16]) -> u32
+    ensures { λ r. ⌜ r ≡ beOf (take 4 tag) ⌝ }
+{
+    be32_of(tag[0], tag[1], tag[2], tag[3])
+}
+
+// A head and a run behind the header byte, or 5.
+fn sign_run(key: Aes128Key, first: u8, head: &[u8], payload: &[u8]) -> Made
+    ensures { λ r. ⌜ r ≡ madeOf (aes (key .0)) (fitting (bytes (first ∷ (now (head .entry) ++ now (payload .entry))))) ⌝ }
+{
+    if Limit::FRAME < head.len() {
+        return Made::Refused(Refusal::FRAME_LONG);
+    }
+    if Limit::FRAME < payload.len() {
+        return Made::Refused(Refusal::FRAME_LONG);
+    }
+    if Limit::FRAME - 5 < head.len() + payload.len() {
+        return Made::Refused(Refusal::FRAME_LONG);
+    }
+    let e = prepare(key);
+    let byte = [first];
+    let m = Mac::start()
+        .absorb(&e, &byte)
+        .absorb(&e, head)
+        .absorb(&e, payload);
+    Made::Mic(number(m.finish(&e)))
+}
+
+fn sign_uplink(p: UplinkPayload, key: Aes128Key, first: u8, frame: &[u8]) -> Made
+    ensures { λ r. ⌜ r ≡ madeOf (aes (key .0)) (fitting (prefixed first (uplinkWire (now (frame .entry)) p))) ⌝ }
+{
+    let run = p.phy_payload;
+    let bad = run.refusal(frame.len());
+    if bad != 0 {
+        return Made::Refused(bad);
+    }
+    let h = p.head();
+    let answer = h.answer;
+    match answer {
+        Checked::Refused(n) => Made::Refused(n),
+        Checked::Accepted => {
+            let b = h.bytes;
+            sign_run(key, first, &b, run.bytes(frame))
+        }
+    }
+}
+
+fn sign_downlink(p: DownlinkPayload, key: Aes128Key, first: u8, frame: &[u8]) -> Made
+    ensures { λ r. ⌜ r ≡ madeOf (aes (key .0)) (fitting (prefixed first (downlinkWire (now (frame .entry)) p))) ⌝ }
+{
+    let run = p.phy_payload;
+    let bad = run.refusal(frame.len());
+    if bad != 0 {
+        return Made::Refused(bad);
+    }
+    let h = p.head();
+    let answer = h.answer;
+    match answer {
+        Checked::Refused(n) => Made::Refused(n),
+        Checked::Accepted => {
+            let b = h.bytes;
+            sign_run(key, first, &b, run.bytes(frame))
+        }
+    }
+}
+
+// A head and an event's or a command's body behind the header byte: 45, path entries, 19, 20, 5.
+fn sign_body<'a>(
+    key: Aes128Key,
+    first: u8,
+    head: &[u8],
+    body: Body,
+    is_event: bool,
+    frame: &'a [u8],
+    work: &'a [u8],
+    kinds: &[[u8; 2]],
+    spans: &[[u32; 2]],
+    ids: &[u32],
+    rssis: &[i16],
+    snrs: &[i8],
+) -> Made
+    ensures { λ r. ⌜ r ≡ madeOf (aes (key .0)) (fitting (prefixed first (headedBy (now (head .entry)) (bodyWire «is_event» (lent (now (frame .entry)) (now (work .entry)) (now (kinds .entry)) (now (spans .entry)) (now (ids .entry)) (now (rssis .entry)) (now (snrs .entry))) body)))) ⌝ }
+{
+    let bad = body.refusal(is_event, frame, work, kinds, spans, ids, rssis, snrs);
+    if bad != 0 {
+        return Made::Refused(bad);
+    }
+    let n = body.size(is_event, frame, work, kinds, spans, ids, rssis, snrs);
+    if Limit::FRAME < head.len() {
+        return Made::Refused(Refusal::FRAME_LONG);
+    }
+    if Limit::FRAME < n {
+        return Made::Refused(Refusal::FRAME_LONG);
+    }
+    if Limit::FRAME - 5 < head.len() + n {
+        return Made::Refused(Refusal::FRAME_LONG);
+    }
+    let e = prepare(key);
+    let byte = [first];
+    let m = Mac::start().absorb(&e, &byte).absorb(&e, head);
+    let all = absorb_body(
+        m,
+        &e,
+        body,
+        is_event,
+        frame,
+        work,
+        kinds,
+        spans,
+        ids,
+        rssis,
+        snrs,
+    );
+    Made::Mic(number(all.finish(&e)))
+}
+
+// 6, 7, 45, body fields, 19, 20, 5.
+fn make<'a>(
+    p: MeshPacket,
+    key: Aes128Key,
+    frame: &'a [u8],
+    work: &'a [u8],
+    kinds: &[[u8; 2]],
+    spans: &[[u32; 2]],
+    ids: &[u32],
+    rssis: &[i16],
+    snrs: &[i8],
+) -> Made
+    ensures { λ r. ⌜ r ≡ madeOf (aes (key .0)) (signedOf (lent (now (frame .entry)) (now (work .entry)) (now (kinds .entry)) (now (spans .entry)) (now (ids .entry)) (now (rssis .entry)) (now (snrs .entry))) p) ⌝ }
+{
+    let mhdr = p.mhdr;
+    let payload = p.payload;
+    match mhdr.to_byte() {
+        HeaderByte::Refused(n) => Made::Refused(n),
+        HeaderByte::Byte(b) => match payload {
+            Payload::Uplink(u) => sign_uplink(u, key, b, frame),
+            Payload::Downlink(u) => sign_downlink(u, key, b, frame),
+            Payload::Event(u) => {
+                let head = u.head();
+                let body = u.events;
+                sign_body(
+                    key,
+                    b,
+                    &head,
+                    body,
+                    true,
+                    frame,
+                    work,
+                    kinds,
+                    spans,
+                    ids,
+                    rssis,
+                    snrs,
+                )
+            }
+            Payload::Command(u) => {
+                let head = u.head();
+                let body = u.commands;
+                sign_body(
+                    key,
+                    b,
+                    &head,
+                    body,
+                    false,
+                    frame,
+                    work,
+                    kinds,
+                    spans,
+                    ids,
+                    rssis,
+                    snrs,
+                )
+            }
+        },
+    }
+}
+
+// The packet with the MIC that its header and body have under a signing key. What is lent holds its payload, as when it is written.
+pub fn set_mic<'a>(
+    p: MeshPacket,
+    key: Aes128Key,
+    frame: &'a [u8],
+    work: &'a [u8],
+    kinds: &[[u8; 2]],
+    spans: &[[u32; 2]],
+    ids: &[u32],
+    rssis: &[i16],
+    snrs: &[i8],
+) -> MeshRead
+    ensures { λ r. ⌜ r ≡ setMic (aes (key .0)) (lent (now (frame .entry)) (now (work .entry)) (now (kinds .entry)) (now (spans .entry)) (now (ids .entry)) (now (rssis .entry)) (now (snrs .entry))) p ⌝ }
+{
+    let mhdr = p.mhdr;
+    let payload = p.payload;
+    match make(p, key, frame, work, kinds, spans, ids, rssis, snrs) {
+        Made::Refused(n) => MeshRead::Refused(n),
+        Made::Mic(mic) => MeshRead::Mesh(MeshPacket {
+            mhdr,
+            payload,
+            has_mic: true,
+            mic,
+        }),
+    }
+}
+
+// 27, then as signing.
+pub fn validate_mic<'a>(
+    p: MeshPacket,
+    key: Aes128Key,
+    frame: &'a [u8],
+    work: &'a [u8],
+    kinds: &[[u8; 2]],
+    spans: &[[u32; 2]],
+    ids: &[u32],
+    rssis: &[i16],
+    snrs: &[i8],
+) -> Validated
+    ensures { λ r. ⌜ r ≡ validateMic (aes (key .0)) (lent (now (frame .entry)) (now (work .entry)) (now (kinds .entry)) (now (spans .entry)) (now (ids .entry)) (now (rssis .entry)) (now (snrs .entry))) p ⌝ }
+{
+    if !p.has_mic {
+        return Validated::Refused(Refusal::MIC_MISSING);
+    }
+    match make(p, key, frame, work, kinds, spans, ids, rssis, snrs) {
+        Made::Refused(n) => Validated::Refused(n),
+        Made::Mic(mic) => {
+            if p.mic == mic {
+                Validated::Valid
+            } else {
+                Validated::Invalid
+            }
+        }
+    }
+}

@@ -1,0 +1,117 @@
+-- Demand 1: "A refusal carries its number from document 01 and changes no byte or record it was lent." Of every call that is lent something
+-- to write into: where it answers a number, what it was lent is as before; and after success output beyond the written length is as before.
+-- (That every call ends and does nothing undefined is what a proved function is; that public calls check for themselves is that none has a
+-- `requires`.) Assumes nothing.
+use Prim.Native.Nat.{ℕ, _≤_, _<_}
+use native.Mathlib.Omega.{arith}
+use mathlib.Core.Bool.{Bool, true, false, not, false≢true}
+use mathlib.Core.Path.{_≡_, refl, sym, ap, _∙_}
+use mathlib.Core.List.{List, [], _∷_, _++_}
+use lib.Dec.{ltb, eqb}
+use lib.ListN.{length, take, drop, drop-of-length-le}
+use lib.Seq.{drop-append-le}
+use borrow.Author.Tests.{le-ltb, lt-ltb}
+use Rattle.base.specs.Pick.{pick}
+use Rattle.base.specs.Numbers.{outputShort}
+use Rattle.base.specs.Answers.{Answer, value, number, Frame, bytes, refused, answerOf, outOf, writtenSays, checkedOf, checkedSays}
+use Rattle.base.proofs.Answers.{out-length}
+use Rattle.bodies.specs.Body.{Lent, heldIn}
+use Rattle.bodies.specs.Open.{openedBy, sealWire, decryptOf, workAfter}
+use Rattle.bodies.specs.declared.body.Body.{Body}
+use Rattle.bodies.specs.declared.body.Body.the-variants.{Empty, Sealed, Open, Items}
+use Rattle.bodies.specs.declared.open.Opened.{Opened}
+use Rattle.fields.specs.declared.path.RelayPath.{RelayPath}
+use Rattle.heartbeats.specs.Heartbeat.{beatRefusal, beatOf, pathAfter, beatSays}
+use Rattle.cache.specs.Cache.{has, countIn, addedOf, addSays}
+use Rattle.cache.specs.declared.record.PayloadCache.{PayloadCache}
+use Rattle.cache.specs.declared.ring.Cache.{Cache}
+use Rattle.hops.specs.Hops.{leaves}
+use Rattle.promises.specs.Says.{openedSays}
+
+never : {A : Type 0} (a : A) (n : ℕ) → value a ≡ number n → ⊥
+never a n e = let z : _≡_ {A = ℕ} 0 1 = cc in omega arith
+
+-- ---- what writes into a lent buffer: frames, bodies, keys and their text, sealed payloads
+
+written-by : (w o : List ℕ) (n : ℕ) (t : Bool) → ltb (length o) (length w) ≡ t → writtenSays (answerOf (bytes w) o) ≡ number n → outOf (bytes w) o ≡ o
+unfolding answerOf outOf
+written-by w o n true q e = simp q
+written-by w o n false q e = absurd (never (length w) n (simp q at e))
+
+pub refused-writes-nothing : (f : Frame) (o : List ℕ) (n : ℕ) → writtenSays (answerOf f o) ≡ number n → outOf f o ≡ o
+unfolding outOf
+refused-writes-nothing (refused k) o n e = refl
+refused-writes-nothing (bytes w) o n e = written-by w o n (ltb (length o) (length w)) refl e
+
+beyond : (w x : List ℕ) → drop (length w) (w ++ x) ≡ x
+beyond w x = let h : length w ≤ length w = omega arith in drop-append-le (length w) w x h ∙ ap (λ (y : List ℕ). y ++ x) (drop-of-length-le w h)
+
+rest-by : (w o : List ℕ) (n : ℕ) (t : Bool) → ltb (length o) (length w) ≡ t → writtenSays (answerOf (bytes w) o) ≡ value n → drop n (outOf (bytes w) o) ≡ drop n o
+unfolding answerOf outOf
+rest-by w o n true q e = absurd (never n outputShort (sym (simp q at e)))
+rest-by w o n false q e =
+    let k : value (length w) ≡ value n = simp q at e in
+    let m : length w ≡ n = cc in
+    rw (← m) (simp q (beyond w (drop (length w) o)))
+
+pub written-keeps-the-rest : (f : Frame) (o : List ℕ) (n : ℕ) → writtenSays (answerOf f o) ≡ value n → (length (outOf f o) ≡ length o) × (drop n (outOf f o) ≡ drop n o)
+unfolding answerOf
+written-keeps-the-rest (refused k) o n e = absurd (never n k (sym e))
+written-keeps-the-rest (bytes w) o n e = (out-length (bytes w) o, rest-by w o n (ltb (length o) (length w)) refl e)
+
+-- ---- the hop edit
+
+pub refused-edit-changes-nothing : (f : Frame) (s : List ℕ) (n : ℕ) → checkedSays (checkedOf f) (leaves f s) ≡ number n → leaves f s ≡ s
+refused-edit-changes-nothing (refused k) s n e = refl
+refused-edit-changes-nothing (bytes w) s n e = absurd (never w n e)
+
+-- ---- opening, into the lent work buffer
+
+opened-by : (ev : Bool) (f : Frame) (w : List ℕ) (n : ℕ) → openedSays (openedBy ev f w) ≡ number n → outOf f w ≡ w
+unfolding openedBy outOf
+opened-by ev (refused k) w n e = refl
+opened-by ev (bytes c) w n e = by (ltb (length w) (length c)) refl where
+  by : (t : Bool) → ltb (length w) (length c) ≡ t → pick (ltb (length w) (length c)) w (c ++ drop (length c) w) ≡ w
+  by true q = simp q
+  by false q = absurd (never _ n (simp q at e))
+
+pub refused-opening-changes-nothing : (key : List ℕ) (command : Bool) (relay time : ℕ) (b : Body) (f w : List ℕ) (n : ℕ)
+    → openedSays (decryptOf key command relay time b f w) ≡ number n → workAfter key command relay time b f w ≡ w
+unfolding decryptOf workAfter
+refused-opening-changes-nothing key command relay time Empty f w n e = refl
+refused-opening-changes-nothing key command relay time (Sealed r) f w n e = opened-by (not command) (sealWire key command relay time f r) w n e
+refused-opening-changes-nothing key command relay time (Open h r) f w n e = refl
+refused-opening-changes-nothing key command relay time (Items k) f w n e = refl
+
+-- ---- a heartbeat's path, into the lent list of entries
+
+pub refused-heartbeat-changes-nothing : (v : List ℕ) (ys : List RelayPath) (n : ℕ) → beatSays (beatOf v (length ys)) ≡ number n → pathAfter v ys ≡ ys
+unfolding beatOf pathAfter
+refused-heartbeat-changes-nothing v ys n e = by (eqb (beatRefusal (length v) (length ys)) 0) refl where
+  by : (t : Bool) → eqb (beatRefusal (length v) (length ys)) 0 ≡ t → pathAfter v ys ≡ ys
+  by true q = absurd (never _ n (simp q at e))
+  by false q = simp q
+
+-- ---- the cache: a refusal changes nothing, and neither does a hit
+
+cache-by : (c : Cache) (r : PayloadCache) (a b h : Bool) → ltb (c .size) 1 ≡ a → ltb 64 (c .size) ≡ b → has (take (countIn c) (c .slots)) r ≡ h
+    → (n : ℕ) → addSays (addedOf c r .answer) ≡ number n → addedOf c r .cache ≡ c
+unfolding addedOf
+cache-by c r true b h p q g n e = simp p
+cache-by c r false true h p q g n e = simp (p, q)
+cache-by c r false false true p q g n e = simp (p, q, g)
+cache-by c r false false false p q g n e = absurd (never true n (simp (p, q, g) at e))
+
+pub refused-add-changes-nothing : (c : Cache) (r : PayloadCache) (n : ℕ) → addSays (addedOf c r .answer) ≡ number n → addedOf c r .cache ≡ c
+refused-add-changes-nothing c r n e = cache-by c r (ltb (c .size) 1) (ltb 64 (c .size)) (has (take (countIn c) (c .slots)) r) refl refl refl n e
+
+hit-by : (c : Cache) (r : PayloadCache) (a b h : Bool) → ltb (c .size) 1 ≡ a → ltb 64 (c .size) ≡ b → has (take (countIn c) (c .slots)) r ≡ h
+    → addSays (addedOf c r .answer) ≡ value false → addedOf c r .cache ≡ c
+unfolding addedOf
+hit-by c r true b h p q g e = simp p
+hit-by c r false true h p q g e = simp (p, q)
+hit-by c r false false true p q g e = simp (p, q, g)
+hit-by c r false false false p q g e = let z : value true ≡ value false = simp (p, q, g) at e in let y : true ≡ false = cc in absurd (false≢true (sym y))
+
+pub hit-moves-nothing : (c : Cache) (r : PayloadCache) → addSays (addedOf c r .answer) ≡ value false → addedOf c r .cache ≡ c
+hit-moves-nothing c r e = hit-by c r (ltb (c .size) 1) (ltb 64 (c .size)) (has (take (countIn c) (c .slots)) r) refl refl refl e
