@@ -18,6 +18,10 @@ use Rattle.mesh_c.proofs.mesh_stream.Kinds as mesh-stream-kinds
 use Rattle.mesh_c.proofs.mesh_stream.Reads as mesh-stream-reads
 use Rattle.mesh_c.proofs.mesh_count.Kinds as mesh-count-kinds
 use Rattle.mesh_c.proofs.mesh_count.Reads as mesh-count-reads
+use Rattle.mesh_c.proofs.mesh_validate.Kinds as mesh-validate-kinds
+use Rattle.mesh_c.proofs.mesh_validate.Reads as mesh-validate-reads
+use Rattle.mesh_c.proofs.mesh_set_hop_count.Kinds as mesh-set-hop-count-kinds
+use Rattle.mesh_c.proofs.mesh_set_hop_count.Reads as mesh-set-hop-count-reads
 
 mesh-encrypt-block : Fixed 2 mesh-encrypt-block-kinds.ps mesh-encrypt-block-kinds.r mesh-encrypt-block-reads.Post
 mesh-encrypt-block κs a x y v w p q = (refl, ap (λ (l : List ℕ). (tt, (l, tt))) (p ∙ sym q))
@@ -39,3 +43,9 @@ mesh-stream κs a x y v w p q = (p .0 ∙ sym (q .0), ap (λ (l : List ℕ). (tt
 
 mesh-count : Fixed 2 mesh-count-kinds.ps mesh-count-kinds.r mesh-count-reads.Post
 mesh-count κs a x y v w p q = (p .0 ∙ sym (q .0), ap (λ (l : List ℕ). (tt, (tt, (l, tt)))) (p .1 ∙ sym (q .1)))
+
+mesh-validate : Fixed 3 mesh-validate-kinds.ps mesh-validate-kinds.r mesh-validate-reads.Post
+mesh-validate κs a x y v w p q = (p .0 ∙ sym (q .0), ap (λ (n : ℕ). (tt, (tt, (n, tt)))) (p .1 ∙ sym (q .1)))
+
+mesh-set-hop-count : Fixed 2 mesh-set-hop-count-kinds.ps mesh-set-hop-count-kinds.r mesh-set-hop-count-reads.Post
+mesh-set-hop-count κs a x y v w p q = (p .0 ∙ sym (q .0), ap (λ (l : List ℕ). (tt, (l, (tt, tt)))) (p .1 ∙ sym (q .1)))

@@ -6,18 +6,26 @@ ghost use Rattle.cmac.specs.Cmac.{tag};
 ghost use Rattle.base.specs.Answers.{answerOf, outOf};
 ghost use Rattle.seal.specs.Stream.{sealedOf};
 ghost use Rattle.items.specs.Items.{countsOf};
-ghost use Rattle.mesh_c.specs.Face.{writtenNumber, countNumber, countList};
+ghost use Rattle.base.specs.Answers.{checkedOf};
+ghost use Rattle.hops.specs.Hops.{hopEdit, leaves};
+ghost use Rattle.mesh_c.specs.Face.{writtenNumber, countNumber, countList, checkedNumber, frameValid, validNumber, validFlag};
 use aes128::Aes128Key;
 use aes128::encrypt_block;
 use aes128::prepare;
+use base::Checked;
 use base::Written;
 use cipher::Cipher;
 use cipher::encipher;
 use cmac::Mac;
 use cmac::cmac;
+use hops::set_hop_count;
 use items::Command;
 use items::Event;
 use items::OpeningRead;
+use mic::Validated;
+use mic::validate_mic;
+use packets::MeshPacket;
+use packets::MeshRead;
 use seal::encrypt_events_commands;
 
 // One block under a key, in place.
@@ -117,5 +125,55 @@ pub extern "C" fn mesh_count(is_event: bool, payload: &[u8], counts: &mut [u64; 
             ];
             0
         }
+    }
+}
+
+fn validated(key: Aes128Key, frame: &[u8]) -> Validated
+    ensures { λ r. ⌜ r ≡ frameValid (aes (key .0)) (now (frame .entry)) ⌝ }
+{
+    match MeshPacket::from_slice(frame) {
+        MeshRead::Refused(n) => Validated::Refused(n),
+        MeshRead::Mesh(p) => validate_mic(
+            p,
+            key,
+            frame,
+            b"",
+            &[[0u8; 2]; 0],
+            &[[0u32; 2]; 0],
+            &[0u32; 0],
+            &[0i16; 0],
+            &[0i8; 0],
+        ),
+    }
+}
+
+// Whether a received frame has the MIC that it should have under a signing key: 0 with 1 or 0 in `valid`, or the reader's number.
+#[no_mangle]
+pub extern "C" fn mesh_validate(key: &[u8; 16], frame: &[u8], valid: &mut u8) -> u8
+    ensures answer { λ r. ⌜ r ≡ validNumber (frameValid (aes (now (key .entry))) (now (frame .entry))) ⌝ }
+    ensures flag { λ _. ⌜ now (valid .exit) ≡ validFlag (frameValid (aes (now (key .entry))) (now (frame .entry))) (now (valid .entry)) ⌝ }
+{
+    match validated(Aes128Key::from_bytes(*key), frame) {
+        Validated::Valid => {
+            *valid = 1;
+            0
+        }
+        Validated::Invalid => {
+            *valid = 0;
+            0
+        }
+        Validated::Refused(n) => n,
+    }
+}
+
+// The hop edit in the received buffer: 0, or the number with no byte changed.
+#[no_mangle]
+pub extern "C" fn mesh_set_hop_count(key: &[u8; 16], frame: &mut [u8], hop_count: u8) -> u8
+    ensures answer { λ r. ⌜ r ≡ checkedNumber (checkedOf (hopEdit (aes (now (key .entry))) (now (frame .entry)) «hop_count»)) ⌝ }
+    ensures bytes { λ _. ⌜ now (frame .exit) ≡ leaves (hopEdit (aes (now (key .entry))) (now (frame .entry)) «hop_count») (now (frame .entry)) ⌝ }
+{
+    match set_hop_count(frame, hop_count, Aes128Key::from_bytes(*key)) {
+        Checked::Accepted => 0,
+        Checked::Refused(n) => n,
     }
 }

@@ -1,0 +1,220 @@
+-- Laws of a frame's text: its parts laid one behind the other, what the packet reader's answer makes of it, how long it is, and lines of hex.
+-- Assumes nothing.
+use Prim.Native.Nat.{ℕ, _+_, _-_, _/_, _%_, _≤_, _<_}
+use native.Mathlib.Omega.{arith}
+use mathlib.Core.Path.{_≡_, refl, sym, ap, _∙_}
+use mathlib.Core.Bool.{Bool, true, false}
+use mathlib.Core.List.{List, _++_}
+use lib.Dec.{ltb, eqb}
+use lib.ListN.{length, take, drop, replicate, getD, length-append, length-replicate}
+use lib.Seq.{take-append-seam}
+use borrow.Author.Tests.{lt-ltb, le-ltb, ltb-false, eq-eqb, ne-eqb}
+use Rattle.base.specs.Pick.{pick}
+use Rattle.base.specs.Lists.{Bytes}
+use Rattle.base.specs.Answers.{bytes}
+use Rattle.base.specs.declared.Written.the-variants.{Bytes as Wrote, Refused}
+use Rattle.base.proofs.Answers.{room, no-room}
+use Rattle.wire.specs.Lay.{put}
+use Rattle.wire.specs.Part.{partOf}
+use Rattle.wire.specs.Number.{beBytes}
+use Rattle.wire.specs.Hex.{unhex, hexText}
+use Rattle.wire.proofs.Laws.Lay.{put-fits, put-front, put-length, put-whole, two-puts}
+use Rattle.wire.proofs.Laws.Hex.{hex-length, hex-all, hex-back, unhex-length}
+use Rattle.fields.specs.declared.header.PayloadType.{PayloadType}
+use Rattle.fields.specs.declared.header.PayloadType.the-variants.{Uplink, Downlink, Event, Command}
+use Rattle.payloads.proofs.Steps.{Outcome}
+use Rattle.packets.specs.Read.{ofMesh, meshOf, packetOf}
+use Rattle.packets.specs.declared.mesh.Payload.{Payload}
+use Rattle.packets.specs.declared.mesh.Payload.the-variants.{Uplink as AnUplink, Downlink as ADownlink, Event as AnEvent, Command as ACommand}
+use Rattle.packets.specs.declared.mesh.MeshRead.{MeshRead}
+use Rattle.packets.specs.declared.mesh.MeshRead.the-variants as mesh
+use Rattle.packets.specs.declared.any.Packet.the-variants.{Mesh, Lora}
+use Rattle.packets.specs.declared.any.PacketRead.{PacketRead}
+use Rattle.packets.specs.declared.any.PacketRead.the-variants.{Packet as PacketIs, Refused as NoPacket}
+use Rattle.wire.specs.declared.run.Run.{Run}
+use Rattle.dump.proofs.Laws.Decimal.{decimal-most}
+use Rattle.dump.specs.Ascii.{ascii}
+use Rattle.dump.specs.Dump.{decimal, fourText, labelOf, lineOf, payloadText, meshText, counted, refusedText, readText, frameText, badHex, lineText}
+
+-- ---- parts laid one behind the other
+
+-- w lies at the front of o, and n is the next place
+record Laid (o w x : List ℕ) (n : ℕ) : Type 0 where
+  there : x ≡ put o 0 w
+  long : n ≡ length w
+
+laid-first : (o w : List ℕ) {x : List ℕ} {n : ℕ} → x ≡ put o 0 w → n ≡ length w → Laid o w x n
+laid-first o w e l = record { there = e; long = l }
+
+laid-more : {o w x : List ℕ} {n : ℕ} → Laid o w x n → (v : List ℕ) {y : List ℕ} (k : ℕ) → y ≡ put x n v → k ≡ length v → n + k ≤ length o → Laid o (w ++ v) y (n + k)
+laid-more {o} {w} {x} {n} l v k e q h =
+    let a = length-append w v in
+    let b = l .long in
+    record { there = e ∙ rw (l .there) (two-puts o w v n (sym b) (omega arith)); long = omega arith }
+
+laid-done : {o w x : List ℕ} {n : ℕ} → Laid o w x n → n ≤ length o → Outcome (Wrote n) x (bytes w) o
+laid-done {o} {w} {x} {n} l h =
+    let b = l .long in
+    let g : length w ≤ length o = omega arith in
+    (ap Wrote b ∙ sym (room w o g .0), l .there ∙ put-front o w g)
+
+too-short : (w o : List ℕ) → length o < length w → Outcome (Refused 21) o (bytes w) o
+too-short w o h = (sym (no-room w o h .0), sym (no-room w o h .1))
+
+module _ (word o : List ℕ) (n k : ℕ) (e : k ≡ length (decimal n)) where
+  pub counted-short : length o < length word + k → Outcome (Refused 21) o (bytes (counted word n)) o
+  counted-short h = let a = length-append word (decimal n) in too-short (counted word n) o (omega arith)
+
+  pub counted-laid : length word + k ≤ length o → (x y : List ℕ) → x ≡ put o 0 word → y ≡ put x (length word) (decimal n)
+      → Outcome (Wrote (length word + k)) y (bytes (counted word n)) o
+  counted-laid h x y ex ey = laid-done (laid-more (laid-first o word ex refl) (decimal n) k ey e h) h
+
+four-length : (n : ℕ) → 8 ≡ length (fourText n)
+unfolding beBytes
+four-length n = sym (hex-length (beBytes 4 n))
+
+module _ (t : PayloadType) (hops : ℕ) (word : List ℕ) (n relay : ℕ) (tail o : List ℕ) (a j k : ℕ)
+    (ea : a ≡ length (labelOf t)) (ej : j ≡ length (decimal hops)) (ek : k ≡ length (decimal n)) where
+  line-length : length (lineOf t hops word n relay tail) ≡ a + j + length word + k + 12 + 8 + length tail + 1
+  unfolding lineOf
+  line-length = simp (length-append, ← four-length relay) (omega arith)
+
+  pub line-short : length o < a + j + length word + k + 12 + 8 + length tail + 1 → Outcome (Refused 21) o (bytes (lineOf t hops word n relay tail)) o
+  line-short h = let l = line-length in too-short (lineOf t hops word n relay tail) o (omega arith)
+
+  pub line-laid : a + j + length word + k + 12 + 8 + length tail + 1 ≤ length o → {x1 x2 x3 x4 x5 x6 x7 x8 : List ℕ}
+      → x1 ≡ put o 0 (labelOf t)
+      → x2 ≡ put x1 a (decimal hops)
+      → x3 ≡ put x2 (a + j) word
+      → x4 ≡ put x3 (a + j + length word) (decimal n)
+      → x5 ≡ put x4 (a + j + length word + k) (ascii ", relay_id: ")
+      → x6 ≡ put x5 (a + j + length word + k + 12) (fourText relay)
+      → x7 ≡ put x6 (a + j + length word + k + 12 + 8) tail
+      → x8 ≡ put x7 (a + j + length word + k + 12 + 8 + length tail) (ascii "]")
+      → Outcome (Wrote (a + j + length word + k + 12 + 8 + length tail + 1)) x8 (bytes (lineOf t hops word n relay tail)) o
+  unfolding lineOf
+  line-laid h e1 e2 e3 e4 e5 e6 e7 e8 =
+      let l1 = laid-first o (labelOf t) e1 ea in
+      let l2 = laid-more l1 (decimal hops) j e2 ej (omega arith) in
+      let l3 = laid-more l2 word (length word) e3 refl (omega arith) in
+      let l4 = laid-more l3 (decimal n) k e4 ek (omega arith) in
+      let l5 = laid-more l4 (ascii ", relay_id: ") 12 e5 refl (omega arith) in
+      let l6 = laid-more l5 (fourText relay) 8 e6 (four-length relay) (omega arith) in
+      let l7 = laid-more l6 tail (length tail) e7 refl (omega arith) in
+      laid-done (laid-more l7 (ascii "]") 1 e8 refl h) h
+
+-- the MIC and its word fill fifteen bytes
+tail-long : (mic : ℕ) → length (ascii ", mic: " ++ fourText mic) ≡ 15
+tail-long mic = let l = length-append (ascii ", mic: ") (fourText mic) in let f = four-length mic in omega arith
+
+pub mic-tail : (mic : ℕ) (x y : List ℕ) → x ≡ put (replicate 15 0) 0 (ascii ", mic: ") → y ≡ put x 7 (fourText mic) → ascii ", mic: " ++ fourText mic ≡ y
+mic-tail mic x y ex ey =
+    let q = tail-long mic in
+    sym (ey ∙ rw ex (two-puts (replicate 15 0) (ascii ", mic: ") (fourText mic) 7 refl (omega arith)) ∙ put-whole (replicate 15 0) (ascii ", mic: " ++ fourText mic) q)
+
+-- ---- what was read
+
+pub text-of : (s : List ℕ) (r : PacketRead) → r ≡ packetOf s → frameText s ≡ readText r
+unfolding frameText
+text-of s r e = ap readText (sym e)
+
+mesh-no-lora : (m : MeshRead) (r : Run) → PacketIs (Lora r) ≡ ofMesh m → ⊥
+mesh-no-lora (mesh.Mesh p) r e = let z : _≡_ {A = ℕ} 0 1 = cc in omega arith
+mesh-no-lora (mesh.Refused n) r e = let z : _≡_ {A = ℕ} 0 1 = cc in omega arith
+
+-- a LoRa frame is no longer than any frame
+pub lora-most : (s : List ℕ) (r : Run) → PacketIs (Lora r) ≡ packetOf s → r .len ≤ 8192
+unfolding packetOf
+lora-most s r e = by (eqb (length s) 0) (ltb 8192 (length s)) refl (eqb (getD s 0 0 / 32) 7) e
+  where
+    by : (x y : Bool) → ltb 8192 (length s) ≡ y → (z : Bool)
+        → PacketIs (Lora r) ≡ pick x (NoPacket 1) (pick y (NoPacket 5) (pick z (ofMesh (meshOf s)) (PacketIs (Lora (record { start = 0; len = length s })))))
+        → r .len ≤ 8192
+    by true y q z e = absurd (let z : _≡_ {A = ℕ} 0 1 = cc in omega arith)
+    by false true q z e = absurd (let z : _≡_ {A = ℕ} 0 1 = cc in omega arith)
+    by false false q true e = absurd (mesh-no-lora (meshOf s) r e)
+    by false false q false e =
+        let h : length s ≤ 8192 = ltb-false _ _ q in
+        let p : r ≡ record { start = 0; len = length s } = cc in
+        rw p h
+
+-- ---- how long a text is at most
+
+label-most : (t : PayloadType) → length (labelOf t) ≤ 21
+unfolding labelOf
+label-most Uplink = omega arith
+label-most Downlink = omega arith
+label-most Event = omega arith
+label-most Command = omega arith
+
+line-most : (t : PayloadType) (hops : ℕ) (word : List ℕ) (n relay : ℕ) (tail : List ℕ) → length word ≤ 13 → length tail ≤ 15
+    → length (lineOf t hops word n relay tail) ≤ 90
+line-most t hops word n relay tail h g =
+    let l = line-length t hops word n relay tail word _ _ _ refl refl refl in
+    let a = label-most t in
+    let b = decimal-most hops in
+    let c = decimal-most n in
+    omega arith
+
+payload-most : (t : PayloadType) (hops mic : ℕ) (p : Payload) → length (payloadText t hops mic p) ≤ 90
+payload-most t hops mic (AnUplink p) = line-most t hops _ _ _ _ (omega arith) (let q = tail-long mic in omega arith)
+payload-most t hops mic (ADownlink p) = line-most t hops _ _ _ _ (omega arith) (let q = tail-long mic in omega arith)
+payload-most t hops mic (AnEvent p) = line-most t hops _ _ _ _ (omega arith) (omega arith)
+payload-most t hops mic (ACommand p) = line-most t hops _ _ _ _ (omega arith) (omega arith)
+
+read-most : (r : PacketRead) → length (readText r) ≤ 90
+unfolding meshText
+read-most (PacketIs (Mesh p)) = payload-most _ _ _ (p .payload)
+read-most (PacketIs (Lora r)) = let b = decimal-most (r .len) in simp length-append (omega arith)
+read-most (NoPacket n) = let b = decimal-most n in simp length-append (omega arith)
+
+pub frame-text-most : (s : List ℕ) → length (frameText s) ≤ 90
+unfolding frameText
+frame-text-most s = read-most (packetOf s)
+
+-- so that an output of 90 bytes is never too short
+pub line-text-most : (s : List ℕ) → length (lineText s) ≤ 90
+unfolding lineText
+line-text-most s = by (badHex s)
+  where
+    by : (t : Bool) → length (pick t (refusedText 30) (frameText (unhex s))) ≤ 90
+    by true = read-most (NoPacket 30)
+    by false = frame-text-most (unhex s)
+
+-- ---- lines of hex
+
+-- what is written in hex reads as its bytes
+pub hex-line : (s : List ℕ) → Bytes s → lineText (hexText s) ≡ frameText s
+unfolding lineText badHex
+hex-line s h =
+    let l = hex-length s in
+    simp (eq-eqb (length (hexText s) % 2) 0 (omega arith), hex-all s, hex-back s h)
+
+module _ (s : List ℕ) where
+  pub line-bad : badHex s ≡ true → lineText s ≡ refusedText 30
+  unfolding lineText
+  line-bad b = simp b
+
+  pub line-good : badHex s ≡ false → lineText s ≡ frameText (unhex s)
+  unfolding lineText
+  line-good b = simp b
+
+  -- 5 whatever it holds
+  pub line-long : badHex s ≡ false → 8192 < length s / 2 → lineText s ≡ refusedText 5
+  unfolding frameText packetOf
+  line-long b l =
+      let n = unhex-length s in
+      line-good b ∙ simp (ne-eqb (length (unhex s)) 0 (λ e. omega arith), lt-ltb 8192 (length (unhex s)) (omega arith))
+
+  decoded : (o x v : List ℕ) → length s / 2 ≤ length o → x ≡ put o 0 (unhex s) → v ≡ partOf x 0 (length s / 2) → v ≡ unhex s
+  unfolding partOf
+  decoded o x v h e q =
+      let n = unhex-length s in
+      let p : 0 + length (unhex s) ≤ length o = omega arith in
+      let l = put-length o 0 (unhex s) in
+      q ∙ rw (e, ← n) (simp (le-ltb (length (put o 0 (unhex s))) 0 (omega arith), le-ltb (length (put o 0 (unhex s)) - 0) (length (unhex s)) (omega arith))
+      (ap (take (length (unhex s))) (put-fits o 0 (unhex s) p) ∙ take-append-seam (unhex s) (drop (0 + length (unhex s)) o)))
+
+  -- the array holds every frame that is looked at
+  pub line-frame : (x v : List ℕ) → length s / 2 ≤ 8192 → x ≡ put (replicate 8192 0) 0 (unhex s) → v ≡ partOf x 0 (length s / 2) → v ≡ unhex s
+  line-frame x v h = decoded (replicate 8192 0) x v (rw (length-replicate {A = ℕ} 8192 0) h)

@@ -1,0 +1,103 @@
+-- The text of a frame, and of a line of hex over it. No newline is in either. Assumes nothing.
+use Prim.Native.Nat.{ℕ, zero, suc, _+_, _-_, _/_, _%_}
+use mathlib.Core.Bool.{Bool, true, not}
+use mathlib.Core.List.{List, [], _∷_, _++_}
+use lib.Dec.{ltb, eqb}
+use lib.ListN.{length, replicate}
+use Rattle.base.specs.Pick.{pick}
+use Rattle.base.specs.Numbers.{lineDigits}
+use Rattle.wire.specs.Number.{beBytes}
+use Rattle.wire.specs.Hex.{allHex, unhex, hexText}
+use Rattle.fields.specs.declared.header.PayloadType.{PayloadType}
+use Rattle.fields.specs.declared.header.PayloadType.the-variants.{Uplink, Downlink, Event, Command}
+use Rattle.packets.specs.Read.{packetOf}
+use Rattle.packets.specs.declared.mesh.Payload.{Payload}
+use Rattle.packets.specs.declared.mesh.Payload.the-variants.{Uplink as AnUplink, Downlink as ADownlink, Event as AnEvent, Command as ACommand}
+use Rattle.packets.specs.declared.mesh.MeshPacket.{MeshPacket}
+use Rattle.packets.specs.declared.any.Packet.{Packet}
+use Rattle.packets.specs.declared.any.Packet.the-variants.{Mesh, Lora}
+use Rattle.packets.specs.declared.any.PacketRead.{PacketRead}
+use Rattle.packets.specs.declared.any.PacketRead.the-variants.{Packet as PacketIs, Refused}
+use Rattle.dump.specs.Ascii.{ascii}
+use Rattle.dump.specs.declared.digits.Digits.{Digits}
+
+-- ---- numbers
+
+-- the digits of n, the highest first, and no more than the last k of them
+unfoldable pub lastDigits : ℕ → ℕ → List ℕ
+lastDigits zero n = []
+lastDigits (suc k) n = pick (ltb n 10) ((48 + n) ∷ []) (lastDigits k (n / 10) ++ ((48 + n % 10) ∷ []))
+
+-- in decimal, without leading zeros: no u32 has more than ten digits
+unfoldable pub decimal : ℕ → List ℕ
+decimal n = lastDigits 10 n
+
+-- the same at the end of ten bytes
+abbrev pub digitsOf : ℕ → Digits
+digitsOf n = record { bytes = replicate (10 - length (decimal n)) 0 ++ decimal n; start = 10 - length (decimal n) }
+
+-- four bytes, kept as one number, in hex
+abbrev pub fourText : ℕ → List ℕ
+fourText n = hexText (beBytes 4 n)
+
+-- ---- frames
+
+abbrev pub nameOf : PayloadType → List ℕ
+nameOf Uplink = ascii "Uplink"
+nameOf Downlink = ascii "Downlink"
+nameOf Event = ascii "Event"
+nameOf Command = ascii "Command"
+
+unfoldable pub labelOf : PayloadType → List ℕ
+labelOf t = ascii "[" ++ nameOf t ++ ascii " hop_count: "
+
+-- word and tail are what uplinks and events have of their own
+unfoldable pub lineOf : PayloadType → ℕ → List ℕ → ℕ → ℕ → List ℕ → List ℕ
+lineOf t hops word n relay tail =
+    labelOf t ++ decimal hops ++ word ++ decimal n ++ ascii ", relay_id: " ++ fourText relay ++ tail ++ ascii "]"
+
+-- of an uplink or a downlink
+abbrev pub linkText : PayloadType → ℕ → ℕ → ℕ → ℕ → List ℕ
+linkText t hops id relay mic = lineOf t hops (ascii ", uplink_id: ") id relay (ascii ", mic: " ++ fourText mic)
+
+-- of an event or a command; a timestamp is plain seconds
+abbrev pub stampedText : PayloadType → ℕ → ℕ → ℕ → List ℕ
+stampedText t hops timestamp relay = lineOf t hops (ascii ", timestamp: ") timestamp relay []
+
+abbrev pub payloadText : PayloadType → ℕ → ℕ → Payload → List ℕ
+payloadText t hops mic (AnUplink p) = linkText t hops (p .metadata .«uplink_id») (p .«relay_id») mic
+payloadText t hops mic (ADownlink p) = linkText t hops (p .metadata .«uplink_id») (p .«relay_id») mic
+payloadText t hops mic (AnEvent p) = stampedText t hops (p .timestamp) (p .«relay_id»)
+payloadText t hops mic (ACommand p) = stampedText t hops (p .timestamp) (p .«relay_id»)
+
+-- the label goes by the header's type and the fields by the payload's kind, as in the Rust; a frame that was read has a MIC
+unfoldable pub meshText : MeshPacket → List ℕ
+meshText p = payloadText (p .mhdr .«payload_type») (p .mhdr .«hop_count») (p .mic) (p .payload)
+
+abbrev pub counted : List ℕ → ℕ → List ℕ
+counted word n = word ++ decimal n
+
+abbrev pub refusedText : ℕ → List ℕ
+refusedText n = counted (ascii "refused ") n
+
+-- of a LoRa frame its length
+abbrev pub packetText : Packet → List ℕ
+packetText (Mesh p) = meshText p
+packetText (Lora r) = counted (ascii "lora ") (r .len)
+
+abbrev pub readText : PacketRead → List ℕ
+readText (PacketIs p) = packetText p
+readText (Refused n) = refusedText n
+
+unfoldable pub frameText : List ℕ → List ℕ
+frameText s = readText (packetOf s)
+
+-- ---- lines of hex
+
+-- an odd count of digits, or a byte that is none
+unfoldable pub badHex : List ℕ → Bool
+badHex s = pick (eqb (length s % 2) 0) (not (allHex s)) true
+
+-- 30 comes before all that the packet reader refuses
+unfoldable pub lineText : List ℕ → List ℕ
+lineText s = pick (badHex s) (refusedText lineDigits) (frameText (unhex s))
