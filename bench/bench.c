@@ -1,4 +1,4 @@
-/* Speed and stack of the cipher, the MIC and the stream, beside OpenSSL's, in one process. bench/run builds and runs it twice: with the processor's AES
+/* Speed and stack of the cipher, the MIC and the stream, beside OpenSSL's, and of whole frames, in one process. bench/run builds and runs it twice: with the processor's AES
    instructions and with them switched off for OpenSSL; the port uses none, so its figures should be the same in both. */
 #define _GNU_SOURCE
 #define OPENSSL_SUPPRESS_DEPRECATED
@@ -20,6 +20,8 @@ void mesh_encipher(const uint32_t *cipher, uint8_t *block);
 void mesh_cmac(const uint8_t *key, const uint8_t *message, size_t length, uint8_t *tag);
 void mesh_mac(const uint32_t *cipher, const uint8_t *message, size_t length, uint8_t *tag);
 uint8_t mesh_stream(const uint8_t *key, bool is_command, uint32_t relay_id, uint32_t timestamp, const uint8_t *payload, size_t length, uint8_t *out, size_t room);
+uint8_t mesh_validate(const uint8_t *key, const uint8_t *frame, size_t length, uint8_t *valid);
+uint8_t mesh_set_hop_count(const uint8_t *key, uint8_t *frame, size_t length, uint8_t hop_count);
 uint8_t mesh_count(bool is_event, const uint8_t *payload, size_t length, uint64_t *counts);
 
 static uint8_t key[16], message[255], block[16], tag[16], sealed[255], work[255];
@@ -99,6 +101,38 @@ static void agree(void)
     printf("20000 payloads of 0 to 255 bytes, sealed and opened: equal to OpenSSL's CTR\n");
 }
 
+/* Frames of every type: what the hop edit leaves is the frame with the count, an uplink's two bits and OpenSSL's MIC over them set. */
+static void agree_frames(void)
+{
+    static const size_t least[4] = {14, 15, 13, 13};
+    uint8_t frame[255], theirs[255], valid;
+    size_t length;
+    CMAC_CTX *context = CMAC_CTX_new();
+    for (int round = 0; round < 20000; round++) {
+        int type = rand() & 3, hops = 1 + (rand() & 7);
+        size_t n = least[type] + rand() % (256 - least[type]);
+        for (int i = 0; i < 16; i++) key[i] = rand();
+        for (size_t i = 0; i < n; i++) frame[i] = rand();
+        frame[0] = 0xe0 | type << 3 | (rand() & 7);
+        memcpy(theirs, frame, n);
+        theirs[0] = 0xe0 | type << 3 | (hops - 1);
+        if (type == 0) theirs[4] &= 63;
+        CMAC_Init(context, key, 16, EVP_aes_128_cbc(), NULL);
+        CMAC_Update(context, theirs, n - 4);
+        CMAC_Final(context, tag, &length);
+        memcpy(theirs + n - 4, tag, 4);
+        if (mesh_set_hop_count(key, frame, n, hops) || memcmp(frame, theirs, n)) fail("a hop edit differs");
+        if (mesh_validate(key, frame, n, &valid) || !valid) fail("an edited frame is not valid");
+        frame[n - 1 - rand() % 4] ^= 1 << (rand() & 7);
+        if (mesh_validate(key, frame, n, &valid) || valid) fail("a frame with another MIC is valid");
+        memcpy(theirs, frame, n);
+        if (mesh_set_hop_count(key, frame, n, 0) != 6 || mesh_set_hop_count(key, frame, n, 9) != 7 || memcmp(frame, theirs, n)) fail("a refused edit changes the frame");
+        if (mesh_set_hop_count(key, frame, least[type] - 1, hops) != 4 || memcmp(frame, theirs, n)) fail("a short frame is edited");
+    }
+    CMAC_CTX_free(context);
+    printf("20000 frames of 13 to 255 bytes, edited, validated and refused: as OpenSSL's CMAC has them\n");
+}
+
 /* ---- the stack: a thread on a stack that was painted before, and how far down the paint is gone */
 
 static size_t depth(void *(*work)(void *))
@@ -132,6 +166,7 @@ int main(int count, char **words)
     (void)count;
     srand(4493);
     agree();
+    agree_frames();
     for (int i = 0; i < 16; i++) key[i] = i * 7 + 1;
     for (int i = 0; i < 255; i++) message[i] = i * 11 + 3;
     mesh_prepare(key, ready);
@@ -150,6 +185,16 @@ int main(int count, char **words)
     for (int i = 0; i < 100; i++) message[i] = i % 10 == 0 ? 1 : i % 10 == 1 ? 8 : i;
     TIME(seal100, 5000, mesh_stream(key, false, 0x0a0b0c0d, 60, message, 100, sealed, 255); key[1] = sealed[3]);
     TIME(open100, 5000, mesh_stream(key, false, 0x0a0b0c0d, 60, sealed, 100, work, 255); mesh_count(true, work, 100, counts); key[1] = work[3] + counts[0]);
+
+    /* an uplink; each turn edits what the last one left, and validates it as it stands */
+    double edit14, edit255, valid14, valid255;
+    uint8_t frame[255], valid = 0;
+    memcpy(frame, message, 255);
+    frame[0] = 0xe0;
+    TIME(edit14, 5000, mesh_set_hop_count(key, frame, 14, 1 + (frame[13] & 7)); key[1] = frame[12]);
+    TIME(valid14, 5000, mesh_validate(key, frame, 14, &valid); frame[13] += valid; key[1]++);
+    TIME(edit255, 2000, mesh_set_hop_count(key, frame, 255, 1 + (frame[254] & 7)); key[1] = frame[253]);
+    TIME(valid255, 2000, mesh_validate(key, frame, 255, &valid); frame[254] += valid; key[1]++);
 
     AES_KEY theirs;
     uint8_t many[4096] = {0};
@@ -190,6 +235,10 @@ int main(int count, char **words)
     row("100 bytes sealed, key set each time", seal100, ctr100, "EVP CTR, context reused");
     row("100 bytes opened and counted, key set", open100, ctr100, "EVP CTR, context reused");
     printf("%-44s %9.1f\n", "a block, key set", once);
+    printf("%-44s %9.1f\n", "hop edit of an uplink of 14 bytes", edit14);
+    printf("%-44s %9.1f\n", "hop edit of an uplink of 255 bytes", edit255);
+    printf("%-44s %9.1f\n", "an uplink of 14 bytes validated", valid14);
+    printf("%-44s %9.1f\n", "an uplink of 255 bytes validated", valid255);
 
     size_t none = depth(idle);
     printf("stack of a MIC, key set: %zu bytes; key ready: %zu bytes\n", depth(sign) - none, depth(sign_ready) - none);

@@ -356,22 +356,3 @@ new-list n h k = rw (le-ltb n 1 h, le-ltb 64 n k, zero-mod n, none) refl
 -- whatever is added to a new cache, the ring answers as the list of the last n records does
 pub adds-list : (n : ℕ) → 1 ≤ n → n ≤ 64 → (rs : List PayloadCache) → ringAnswers (newOf n .cache) rs ≡ answers n [] rs
 adds-list n h k rs = all-follow (newOf n .cache) (new-good n h k) rs ∙ rw (new-size n h k, new-list n h k) refl
-
--- ---- document 01's example P12: a cache of 2, to which A, B, A, C, A, B are added
-
-abbrev A : PayloadCache
-A = rec Uplink 1 0 16909060
-
-abbrev B : PayloadCache
-B = rec Uplink 2 0 16909060
-
-abbrev C : PayloadCache
-C = rec Event 0 1 16909060
-
-pub p12 : answers 2 [] (A ∷ B ∷ A ∷ C ∷ A ∷ B ∷ []) ≡ New ∷ New ∷ Seen ∷ New ∷ New ∷ New ∷ []
-unfolding answers step push has sameRecord
-p12 = refl
-
-pub p12-ring : ringAnswers (newOf 2 .cache) (A ∷ B ∷ A ∷ C ∷ A ∷ B ∷ []) ≡ New ∷ New ∷ Seen ∷ New ∷ New ∷ New ∷ []
-unfolding ringAnswers newOf addedOf pushedOf has sameRecord
-p12-ring = refl

@@ -1,5 +1,5 @@
 -- Laws of composed items: none of them, what a verdict of 0 says of each, and a size that is capped. Assumes nothing.
-use Prim.Native.Nat.{ℕ, zero, suc, _<_, _≤_, min}
+use Prim.Native.Nat.{ℕ, zero, suc, _+_, _<_, _≤_, min}
 use native.Mathlib.Nat.{le-of-suc-le-suc, not-suc-le-zero}
 use native.Mathlib.Omega.{arith}
 use mathlib.Core.Bool.{Bool, true, false}
@@ -106,28 +106,15 @@ module _ (ev : Bool) (l : Lists) (it : Composed) where
 pub value-short : (ev : Bool) (l : Lists) (n : ℕ) → verdictOf ev l n ≡ 0 → (i : ℕ) → i < n → length (valueOf ev l (itemIn l i)) ≤ 255
 value-short ev l n e i h = short-value ev l (itemIn l i) (all-fine ev l n e i h .not-long)
 
--- ---- a size that is capped
+-- ---- a size that is capped: it is the length where that is at most 8,192, and over any limit up to there where the length is
 
-pub capped-is : (n : ℕ) → n ≤ 8192 → capped n ≡ n
-capped-is n h = simp (le-ltb 8192 n h)
+capped-by : (m : ℕ) (t : Bool) → ltb 8192 m ≡ t → (n : ℕ) → n ≡ pick t 8193 m → (n ≤ 8192 → n ≡ m) × ((h k : ℕ) → k ≤ 8192 → k < h + n → k < h + m)
+capped-by m true q n e = let g : 8192 < m = ltb-true _ _ q in (λ l. absurd (omega arith), λ h k l j. omega arith)
+capped-by m false q n e = (λ l. e, λ h k l j. omega arith)
 
-pub capped-small : (n : ℕ) → capped n ≤ 8192 → n ≤ 8192
-capped-small n h = go (ltb 8192 n) refl h
-  where
-    go : (t : Bool) → ltb 8192 n ≡ t → pick t 8193 n ≤ 8192 → n ≤ 8192
-    go true e k = absurd (omega arith)
-    go false e k = ltb-false 8192 n e
+pub capped-is : (n m : ℕ) → n ≡ capped m → n ≤ 8192 → n ≡ m
+capped-is n m e = capped-by m (ltb 8192 m) refl n e .0
 
-pub capped-large : (n : ℕ) → 8192 < capped n → 8192 < n
-capped-large n h = go (ltb 8192 n) refl h
-  where
-    go : (t : Bool) → ltb 8192 n ≡ t → 8192 < pick t 8193 n → 8192 < n
-    go true e k = ltb-true 8192 n e
-    go false e k = k
-
-pub capped-most : (n : ℕ) → capped n ≤ 8193
-capped-most n = go (ltb 8192 n) refl
-  where
-    go : (t : Bool) → ltb 8192 n ≡ t → pick t 8193 n ≤ 8193
-    go true e = omega arith
-    go false e = let h = ltb-false 8192 n e in omega arith
+-- also behind a head of h bytes
+pub capped-over : (h k n m : ℕ) → k ≤ 8192 → n ≡ capped m → k < h + n → k < h + m
+capped-over h k n m l e = capped-by m (ltb 8192 m) refl n e .1 h k l

@@ -24,6 +24,7 @@ use Rattle.cipher.specs.Words.{prepared, enciphered}
 use Rattle.seal.specs.Stream.{numbered, streamed, sealedOf}
 use Rattle.seal.proofs.Turns.{too-long, too-short, sealed-in}
 use Rattle.composed.specs.Composed.{capped}
+use Rattle.composed.proofs.Laws.{capped-is, capped-over}
 use Rattle.payloads.specs.Write.{prefixed, limited, limitedOf, withMic}
 use Rattle.payloads.proofs.Steps.{Outcome, refuses, same-frame, body-refused, frame-refused, no-mic, frame-long, frame-whole, four-length, four-puts}
 use Rattle.bodies.specs.Body.{Lent, bodyOf, bodyRefusal, bodyBytes, bodyWire}
@@ -36,15 +37,11 @@ use Rattle.events.proofs.Laws.{stamp-length}
 
 -- ---- a length that stands for any larger one
 
-capped-by : (m : ℕ) (t : Bool) → ltb 8192 m ≡ t → (n : ℕ) → n ≡ pick t 8193 m → (n ≤ 8192 → n ≡ m) × (8179 < n → 8179 < m)
-capped-by m true h n e = let g : 8192 < m = ltb-true _ _ h in (λ k. absurd (omega arith), λ k. omega arith)
-capped-by m false h n e = (λ k. e, λ k. omega arith)
+capped-small : (n m : ℕ) → n ≡ capped m → n ≤ 8179 → n ≡ m
+capped-small n m e h = capped-is n m e (omega arith)
 
-pub capped-small : (n m : ℕ) → n ≡ capped m → n ≤ 8179 → n ≡ m
-capped-small n m e h = capped-by m (ltb 8192 m) refl n e .0 (omega arith)
-
-pub capped-large : (n m : ℕ) → n ≡ capped m → 8179 < n → 8179 < m
-capped-large n m e h = capped-by m (ltb 8192 m) refl n e .1 h
+capped-large : (n m : ℕ) → n ≡ capped m → 8179 < n → 8179 < m
+capped-large n m e h = let k : 8179 < 0 + m = capped-over 0 8179 n m (omega arith) e (omega arith) in omega arith
 
 -- ---- a head of eight bytes and a payload
 

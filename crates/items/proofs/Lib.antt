@@ -1,4 +1,3 @@
 pub mod Laws
 pub mod Loop
-pub mod Examples
 pub mod Fixed

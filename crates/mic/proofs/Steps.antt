@@ -6,7 +6,7 @@ use mathlib.Core.Path.{_≡_, refl, sym, ap, ap₂, subst, _∙_}
 use mathlib.Core.List.{List, [], _∷_, _++_, foldl, foldl-append}
 use lib.Dec.{ltb, eqb}
 use lib.ListN.{length, getD, take, length-append}
-use borrow.Author.Tests.{lt-ltb, le-ltb, ltb-true, eq-eqb, ne-eqb}
+use borrow.Author.Tests.{lt-ltb, le-ltb, eq-eqb, ne-eqb}
 use Rattle.base.specs.Pick.{pick}
 use Rattle.base.specs.Lists.{Bytes}
 use Rattle.base.specs.Blocks.{Block}
@@ -22,7 +22,6 @@ use Rattle.cmac.specs.State.{begun, absorb1, finished}
 use Rattle.cmac.specs.declared.Mac.{Mac}
 use Rattle.cmac.proofs.Laws.{finish-tag, tag-same}
 use Rattle.payloads.specs.Write.{prefixed}
-use Rattle.composed.specs.Composed.{capped}
 use Rattle.bodies.specs.Body.{Lent, bodyRefusal, bodyBytes, bodyWire}
 use Rattle.bodies.specs.declared.body.Body.{Body}
 use Rattle.fields.proofs.Laws.Meta.{is-refused, not-refused}
@@ -86,17 +85,6 @@ module _ (ev : Bool) (l : Lent) (b : Body) (head : List ℕ) (k : ℕ) (ek : k �
   pub wire-bytes : k ≡ 0 → headedBy head (bodyWire ev l b) ≡ bytes (head ++ bodyBytes ev l b)
   unfolding bodyWire
   wire-bytes h = ap (headedBy head) (sym (not-refused (bodyRefusal ev l b) (bytes (bodyBytes ev l b)) (sym ek ∙ h)))
-
--- a length that stands for any larger one, behind a head of h bytes
-capped-by : (m : ℕ) (t : Bool) → ltb 8192 m ≡ t → (n : ℕ) → n ≡ pick t 8193 m → (n ≤ 8192 → n ≡ m) × ((h : ℕ) → 8187 < h + n → 8187 < h + m)
-capped-by m true q n e = let g : 8192 < m = ltb-true _ _ q in (λ k. absurd (omega arith), λ h k. omega arith)
-capped-by m false q n e = (λ k. e, λ h k. omega arith)
-
-pub capped-is : (n m : ℕ) → n ≡ capped m → n ≤ 8192 → n ≡ m
-capped-is n m e = capped-by m (ltb 8192 m) refl n e .0
-
-pub capped-over : (h n m : ℕ) → n ≡ capped m → 8187 < h + n → 8187 < h + m
-capped-over h n m e = capped-by m (ltb 8192 m) refl n e .1 h
 
 -- ---- header byte, head and payload, absorbed one after the other
 

@@ -20,13 +20,24 @@ use Rattle.bodies.specs.Open.{openedBy, sealWire, decryptOf, workAfter}
 use Rattle.bodies.specs.declared.body.Body.{Body}
 use Rattle.bodies.specs.declared.body.Body.the-variants.{Empty, Sealed, Open, Items}
 use Rattle.bodies.specs.declared.open.Opened.{Opened}
+use Rattle.bodies.specs.declared.open.Opened.the-variants as opened
 use Rattle.fields.specs.declared.path.RelayPath.{RelayPath}
+use Rattle.base.specs.declared.Written.{Written}
+use Rattle.base.specs.declared.Written.the-variants.{Bytes, Refused}
+use Rattle.events.specs.Seal.{eventSeal, eventSealed, commandSeal, commandSealed, eventOpened, commandOpened}
+use Rattle.events.specs.declared.stamped.EventPayload.{EventPayload}
+use Rattle.events.specs.declared.stamped.CommandPayload.{CommandPayload}
+use Rattle.packets.specs.Read.{meshSays}
+use Rattle.packets.specs.Seal.{ofEventSealed, ofCommandSealed, sealOf, meshSealed, ofEventOpened, ofCommandOpened, meshDecrypted, meshWork}
+use Rattle.packets.specs.declared.mesh.Payload.{Payload}
+use Rattle.packets.specs.declared.mesh.Payload.the-variants as payload
+use Rattle.packets.specs.declared.mesh.MeshPacket.{MeshPacket}
 use Rattle.heartbeats.specs.Heartbeat.{beatRefusal, beatOf, pathAfter, beatSays}
 use Rattle.cache.specs.Cache.{has, countIn, addedOf, addSays}
 use Rattle.cache.specs.declared.record.PayloadCache.{PayloadCache}
 use Rattle.cache.specs.declared.ring.Cache.{Cache}
 use Rattle.hops.specs.Hops.{leaves}
-use Rattle.promises.specs.Says.{openedSays}
+use Rattle.promises.specs.Says.{Told, openedSays, meshOpenedSays}
 
 never : {A : Type 0} (a : A) (n : ℕ) → value a ≡ number n → ⊥
 never a n e = let z : _≡_ {A = ℕ} 0 1 = cc in omega arith
@@ -83,6 +94,27 @@ refused-opening-changes-nothing key command relay time (Sealed r) f w n e = open
 refused-opening-changes-nothing key command relay time (Open h r) f w n e = refl
 refused-opening-changes-nothing key command relay time (Items k) f w n e = refl
 
+event-opened-by : (p : MeshPacket) (u : EventPayload) (o : Opened) (n : ℕ) → meshOpenedSays (ofEventOpened p (eventOpened u o)) ≡ number n → openedSays o ≡ number n
+event-opened-by p u (opened.Opened b k) n e = absurd (never _ n e)
+event-opened-by p u opened.AlreadyOpen n e = absurd (never _ n e)
+event-opened-by p u (opened.Refused k) n e = let q : k ≡ n = cc in ap {B = Answer (Told Body)} (λ (m : ℕ). number m) q
+
+command-opened-by : (p : MeshPacket) (u : CommandPayload) (o : Opened) (n : ℕ) → meshOpenedSays (ofCommandOpened p (commandOpened u o)) ≡ number n → openedSays o ≡ number n
+command-opened-by p u (opened.Opened b k) n e = absurd (never _ n e)
+command-opened-by p u opened.AlreadyOpen n e = absurd (never _ n e)
+command-opened-by p u (opened.Refused k) n e = let q : k ≡ n = cc in ap {B = Answer (Told Body)} (λ (m : ℕ). number m) q
+
+-- the same of a packet
+pub refused-packet-opening-changes-nothing : (key : List ℕ) (p : MeshPacket) (q : Payload) (f w : List ℕ) (n : ℕ)
+    → meshOpenedSays (meshDecrypted key p q f w) ≡ number n → meshWork key q f w ≡ w
+unfolding meshDecrypted meshWork
+refused-packet-opening-changes-nothing key p (payload.Uplink u) f w n e = refl
+refused-packet-opening-changes-nothing key p (payload.Downlink u) f w n e = refl
+refused-packet-opening-changes-nothing key p (payload.Event u) f w n e =
+    refused-opening-changes-nothing key false (u .«relay_id») (u .timestamp) (u .events) f w n (event-opened-by p u (decryptOf key false (u .«relay_id») (u .timestamp) (u .events) f w) n e)
+refused-packet-opening-changes-nothing key p (payload.Command u) f w n e =
+    refused-opening-changes-nothing key true (u .«relay_id») (u .timestamp) (u .commands) f w n (command-opened-by p u (decryptOf key true (u .«relay_id») (u .timestamp) (u .commands) f w) n e)
+
 -- ---- a heartbeat's path, into the lent list of entries
 
 pub refused-heartbeat-changes-nothing : (v : List ℕ) (ys : List RelayPath) (n : ℕ) → beatSays (beatOf v (length ys)) ≡ number n → pathAfter v ys ≡ ys
@@ -115,3 +147,23 @@ hit-by c r false false false p q g e = let z : value true ≡ value false = simp
 
 pub hit-moves-nothing : (c : Cache) (r : PayloadCache) → addSays (addedOf c r .answer) ≡ value false → addedOf c r .cache ≡ c
 hit-moves-nothing c r e = hit-by c r (ltb (c .size) 1) (ltb 64 (c .size)) (has (take (countIn c) (c .slots)) r) refl refl refl e
+
+-- ---- sealing, into the lent output
+
+event-by : (p : MeshPacket) (u : EventPayload) (a : Written) (n : ℕ) → meshSays (ofEventSealed p (eventSealed u a)) ≡ number n → writtenSays a ≡ number n
+unfolding eventSealed
+event-by p u (Bytes k) n e = absurd (never _ n e)
+event-by p u (Refused k) n e = let q : k ≡ n = cc in ap {B = Answer ℕ} (λ (m : ℕ). number m) q
+
+command-by : (p : MeshPacket) (u : CommandPayload) (a : Written) (n : ℕ) → meshSays (ofCommandSealed p (commandSealed u a)) ≡ number n → writtenSays a ≡ number n
+unfolding commandSealed
+command-by p u (Bytes k) n e = absurd (never _ n e)
+command-by p u (Refused k) n e = let q : k ≡ n = cc in ap {B = Answer ℕ} (λ (m : ℕ). number m) q
+
+pub refused-sealing-writes-nothing : (key : List ℕ) (l : Lent) (p : MeshPacket) (q : Payload) (o : List ℕ) (n : ℕ)
+    → meshSays (meshSealed key l p q o) ≡ number n → outOf (sealOf key l q) o ≡ o
+unfolding meshSealed
+refused-sealing-writes-nothing key l p (payload.Uplink u) o n e = absurd (never p n e)
+refused-sealing-writes-nothing key l p (payload.Downlink u) o n e = absurd (never p n e)
+refused-sealing-writes-nothing key l p (payload.Event u) o n e = refused-writes-nothing (eventSeal key l u) o n (event-by p u (answerOf (eventSeal key l u) o) n e)
+refused-sealing-writes-nothing key l p (payload.Command u) o n e = refused-writes-nothing (commandSeal key l u) o n (command-by p u (answerOf (commandSeal key l u) o) n e)

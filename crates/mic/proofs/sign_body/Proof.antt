@@ -13,7 +13,8 @@ use Rattle.cipher.specs.Words.{enciphered}
 use Rattle.cmac.specs.State.{absorb1}
 use Rattle.cmac.specs.declared.Mac.{Mac}
 use Rattle.bodies.specs.Body.{Lent, lent, bodyBytes}
-use Rattle.mic.proofs.Steps.{unsigned, signs, over, wire-refused, wire-bytes, capped-is, capped-over, mic-is}
+use Rattle.mic.proofs.Steps.{unsigned, signs, over, wire-refused, wire-bytes, mic-is}
+use Rattle.composed.proofs.Laws.{capped-is, capped-over}
 use borrow.Author.Needs.{needs}
 use Rattle.mic.proofs.sign_body.Statement.{statement}
 use Rattle.mic.proofs.sign_body.Tie as tie
@@ -34,7 +35,7 @@ returns-3 : tie.Need-returns-3
 returns-3 c = let a = c .before .before .before .before .before .before .before .before .before .args in
     let l = lent (now (a .frame)) (now (a .work)) (now (a .kinds)) (now (a .spans)) (now (a .ids)) (now (a .rssis)) (now (a .snrs)) in
     let v = bodyBytes (a .is-event) l (a .body) in
-    let k = capped-over (length (now (a .head))) _ (length v) (c .before .before .size .ensures) (omega arith) in
+    let k = capped-over (length (now (a .head))) 8187 _ (length v) (omega arith) (c .before .before .size .ensures) (omega arith) in
     signs (aes (a .key .0)) (a .first) _ _ _ (wire-bytes (a .is-event) l (a .body) (now (a .head)) _ (c .before .before .before .before .refusal .ensures) (c .before .before .before .if1 .left))
     (over (aes (a .key .0)) (a .first) (now (a .head)) v k)
 
@@ -42,7 +43,7 @@ returns-4 : tie.Need-returns-4
 returns-4 c = let a = c .before .before .before .before .before .before .before .before .before .before .args in
     let l = lent (now (a .frame)) (now (a .work)) (now (a .kinds)) (now (a .spans)) (now (a .ids)) (now (a .rssis)) (now (a .snrs)) in
     let v = bodyBytes (a .is-event) l (a .body) in
-    let k = capped-over (length (now (a .head))) _ (length v) (c .before .before .before .size .ensures) (omega arith) in
+    let k = capped-over (length (now (a .head))) 8187 _ (length v) (omega arith) (c .before .before .before .size .ensures) (omega arith) in
     signs (aes (a .key .0)) (a .first) _ _ _ (wire-bytes (a .is-event) l (a .body) (now (a .head)) _ (c .before .before .before .before .before .refusal .ensures) (c .before .before .before .before .if1 .left))
     (over (aes (a .key .0)) (a .first) (now (a .head)) v k)
 
