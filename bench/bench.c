@@ -22,6 +22,8 @@ void mesh_mac(const uint32_t *cipher, const uint8_t *message, size_t length, uin
 uint8_t mesh_stream(const uint8_t *key, bool is_command, uint32_t relay_id, uint32_t timestamp, const uint8_t *payload, size_t length, uint8_t *out, size_t room);
 uint8_t mesh_validate(const uint8_t *key, const uint8_t *frame, size_t length, uint8_t *valid);
 uint8_t mesh_set_hop_count(const uint8_t *key, uint8_t *frame, size_t length, uint8_t hop_count);
+uint8_t mesh_cache_clear(uint32_t *words, uint32_t size);
+uint8_t mesh_cache_add(uint32_t *words, uint8_t type, uint16_t uplink_id, uint32_t timestamp, uint32_t relay_id, uint8_t *is_new);
 uint8_t mesh_count(bool is_event, const uint8_t *payload, size_t length, uint64_t *counts);
 
 static uint8_t key[16], message[255], block[16], tag[16], sealed[255], work[255];
@@ -133,6 +135,32 @@ static void agree_frames(void)
     printf("20000 frames of 13 to 255 bytes, edited, validated and refused: as OpenSSL's CMAC has them\n");
 }
 
+/* Sequences of adds beside a list of the last records, which is what document 01 says. */
+static void agree_cache(void)
+{
+    struct { uint8_t type; uint16_t id; uint32_t time, relay; } last[64], r;
+    uint32_t words[195];
+    uint8_t is_new;
+    long adds = 0, hits = 0;
+    if (mesh_cache_clear(words, 0) != 24 || mesh_cache_clear(words, 65) != 24) fail("a cache of 0 or 65 is made");
+    for (uint32_t size = 1; size <= 64; size++) {
+        uint32_t held = 0;
+        if (mesh_cache_clear(words, size)) fail("a cache is refused");
+        for (int turn = 0; turn < 2000; turn++, adds++) {
+            r.type = rand() & 3, r.id = rand() % (size + 2), r.time = rand() & 1, r.relay = 0x0a0b0c0d ^ (rand() & 1) << (rand() & 31);
+            bool there = false;
+            for (uint32_t i = 0; i < held; i++) there |= last[i].type == r.type && last[i].id == r.id && last[i].time == r.time && last[i].relay == r.relay;
+            if (!there) {
+                if (held == size) memmove(last, last + 1, --held * sizeof r);
+                last[held++] = r;
+            }
+            hits += there;
+            if (mesh_cache_add(words, r.type, r.id, r.time, r.relay, &is_new) || is_new == there) fail("the cache differs from the list of the last records");
+        }
+    }
+    printf("%ld adds to caches of 1 to 64, %ld of them hits: as a list of the last records has them\n", adds, hits);
+}
+
 /* ---- the stack: a thread on a stack that was painted before, and how far down the paint is gone */
 
 static size_t depth(void *(*work)(void *))
@@ -167,6 +195,7 @@ int main(int count, char **words)
     srand(4493);
     agree();
     agree_frames();
+    agree_cache();
     for (int i = 0; i < 16; i++) key[i] = i * 7 + 1;
     for (int i = 0; i < 255; i++) message[i] = i * 11 + 3;
     mesh_prepare(key, ready);
@@ -195,6 +224,17 @@ int main(int count, char **words)
     TIME(valid14, 5000, mesh_validate(key, frame, 14, &valid); frame[13] += valid; key[1]++);
     TIME(edit255, 2000, mesh_set_hop_count(key, frame, 255, 1 + (frame[254] & 7)); key[1] = frame[253]);
     TIME(valid255, 2000, mesh_validate(key, frame, 255, &valid); frame[254] += valid; key[1]++);
+
+    /* a cache of 64 that is full: records that were never added, and the newest and the oldest that are there */
+    double fresh, newest, oldest;
+    uint32_t words[195], id = 0;
+    uint8_t is_new = 0;
+    mesh_cache_clear(words, 64);
+    TIME(fresh, 5000, mesh_cache_add(words, 0, 1, id++, 0x0a0b0c0d, &is_new); id += is_new);
+    id = words[67 + (words[2] + 63) % 64];
+    TIME(newest, 5000, mesh_cache_add(words, 0, 1, id, 0x0a0b0c0d, &is_new); id += is_new);
+    id = words[67 + words[2]];
+    TIME(oldest, 5000, mesh_cache_add(words, 0, 1, id, 0x0a0b0c0d, &is_new); id += is_new);
 
     AES_KEY theirs;
     uint8_t many[4096] = {0};
@@ -239,6 +279,9 @@ int main(int count, char **words)
     printf("%-44s %9.1f\n", "hop edit of an uplink of 255 bytes", edit255);
     printf("%-44s %9.1f\n", "an uplink of 14 bytes validated", valid14);
     printf("%-44s %9.1f\n", "an uplink of 255 bytes validated", valid255);
+    printf("%-44s %9.1f\n", "a new record, in a full cache of 64", fresh);
+    printf("%-44s %9.1f\n", "a hit there, the newest record", newest);
+    printf("%-44s %9.1f\n", "a hit there, the oldest record", oldest);
 
     size_t none = depth(idle);
     printf("stack of a MIC, key set: %zu bytes; key ready: %zu bytes\n", depth(sign) - none, depth(sign_ready) - none);

@@ -3,26 +3,26 @@ use Prim.Native.Nat.{ℕ, zero, suc, _-_, _%_, _<_}
 use native.Mathlib.Omega.{arith}
 use mathlib.Core.Bool.{Bool, true, false}
 use mathlib.Core.Path.{_≡_, refl}
-use mathlib.Core.List.{List, [], _∷_, _++_}
+use mathlib.Core.List.{List, [], _∷_}
 use lib.Dec.{ltb, leb, eqb}
 use lib.ListN.{length, take, drop}
 use Rattle.base.specs.Pick.{pick}
 use Rattle.base.specs.Lists.{Bytes, from, imap, joined}
-use Rattle.base.specs.Answers.{Frame, bytes, refused, bytesOr}
+use Rattle.base.specs.Answers.{bytes, bytesOr}
 use Rattle.base.proofs.Bytes.{none-lt, cons-lt, append-lt, take-lt, drop-lt, zeros-lt}
 use Rattle.wire.specs.Number.{beBytes}
 use Rattle.wire.specs.Part.{partOf}
 use Rattle.wire.specs.Run.{runRefusal, runBytes}
 use Rattle.wire.specs.declared.run.Run.{Run}
 use Rattle.wire.proofs.Laws.Number.{be-small}
-use Rattle.fields.specs.Meta.{afterSnr, afterRssi}
+use Rattle.fields.specs.Meta.{afterRssi}
 use Rattle.fields.specs.Path.{pathWire, sixOf}
 use Rattle.fields.specs.Signal.{rssiByte, snrByte}
 use Rattle.fields.specs.declared.signal.SignalByte.{SignalByte}
 use Rattle.fields.specs.declared.signal.SignalByte.the-variants.{Byte, Refused as NoByte}
 use Rattle.fields.specs.declared.path.RelayPath.{RelayPath}
 use Rattle.fields.proofs.Laws.Signal.{rssi-byte-lt, snr-byte-lt}
-use Rattle.items.specs.Items.{isBeat, badBeat, Piece, kept, skipped, cut, pieces}
+use Rattle.items.specs.Items.{isBeat, badBeat, kept, skipped, cut, pieces}
 use Rattle.kept.specs.Kept.{headed, fixed, itemBytes, keptWire, openBytes}
 use Rattle.composed.specs.Composed.{Lists, pathAt, pathRun, pathCount, isPath, valueOf, itemWire}
 use Rattle.composed.specs.declared.Composed.{Composed}

@@ -8,6 +8,10 @@ use Rattle.cache.proofs.record.PayloadCache.from_packet.Kinds as from-p
 use Rattle.cache.proofs.record.PayloadCache.from_packet.Reads as from-packet-reads
 use Rattle.cache.proofs.record.PayloadCache.same.Kinds as same-kinds
 use Rattle.cache.proofs.record.PayloadCache.same.Reads as same-reads
+use Rattle.cache.proofs.record.PayloadCache.pack.Kinds as pack-kinds
+use Rattle.cache.proofs.record.PayloadCache.pack.Reads as pack-reads
+use Rattle.cache.proofs.record.PayloadCache.unpack.Kinds as unpack-kinds
+use Rattle.cache.proofs.record.PayloadCache.unpack.Reads as unpack-reads
 use Rattle.cache.proofs.ring.Cache.new.Kinds as new-kinds
 use Rattle.cache.proofs.ring.Cache.new.Reads as new-reads
 use Rattle.cache.proofs.ring.Cache.added.Kinds as added-kinds
@@ -19,6 +23,12 @@ from-packet κs a x y v w p q = (p ∙ sym q, refl)
 
 same : Fixed 0 same-kinds.ps same-kinds.r same-reads.Post
 same κs a x y v w p q = (p ∙ sym q, refl)
+
+pack : Fixed 0 pack-kinds.ps pack-kinds.r pack-reads.Post
+pack κs a x y v w p q = (p ∙ sym q, refl)
+
+unpack : Fixed 0 unpack-kinds.ps unpack-kinds.r unpack-reads.Post
+unpack κs a x y v w p q = (p ∙ sym q, refl)
 
 new : Fixed 0 new-kinds.ps new-kinds.r new-reads.Post
 new κs a x y v w p q = (p ∙ sym q, refl)

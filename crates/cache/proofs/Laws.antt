@@ -4,7 +4,7 @@ use mathlib.Core.Path.{_≡_, refl, sym, ap, subst, _∙_}
 use mathlib.Core.Bool.{Bool, true, false, _&&_, _||_, or-false, or-true, false≢true}
 use mathlib.Core.List.{List, [], _∷_, _++_, append-nil, append-assoc}
 use mathlib.Core.Logic.{⊎-elim, _⊎_, inl, inr}
-use Prim.Native.Nat.{ℕ, suc, _+_, _-_, _%_, _<_, _≤_, min}
+use Prim.Native.Nat.{ℕ, suc, _+_, _-_, _*_, _/_, _%_, _<_, _≤_, min}
 use native.Mathlib.Nat.{min-eq-left, min-eq-right, mod-eq-of-lt, mod-self, zero-mod, le-refl, zero-lt-suc}
 use native.Mathlib.Numerals.{add-one}
 use native.Mathlib.Omega.{arith}
@@ -12,7 +12,6 @@ use borrow.Author.Tests.{lt-ltb, le-ltb, ltb-true, ltb-false, eqb-true, eq-eqb}
 use lib.Dec.{ltb, eqb}
 use lib.ListN.{length, take, drop, set, length-append, take-append-drop, length-set, length-drop, getD}
 use lib.Seq.{take-suc-set, slice, slice-empty, slice-cons, length-slice, length-take-le, take-set-lt, drop-set-lt, take-take, take-length, drop-append-le, drop-drop, drop-nil}
-use Rattle.base.specs.Pick.{pick}
 use Rattle.fields.specs.Header.{codeOf}
 use Rattle.fields.specs.declared.header.PayloadType.{PayloadType}
 use Rattle.fields.specs.declared.header.PayloadType.the-variants.{Uplink, Downlink, Event, Command}
@@ -20,7 +19,7 @@ use Rattle.cache.specs.declared.record.PayloadCache.{PayloadCache}
 use Rattle.cache.specs.declared.ring.Cache.{Cache}
 use Rattle.cache.specs.declared.ring.CacheAnswer.{CacheAnswer}
 use Rattle.cache.specs.declared.ring.CacheAnswer.the-variants.{New, Seen}
-use Rattle.cache.specs.Cache.{rec, sameRecord, has, push, step, answers, lastOf, answersLast, newOf, countIn, placeIn, pushedOf, addedOf, ringAnswers, contents}
+use Rattle.cache.specs.Cache.{sameRecord, headOf, packOf, kindOf, unpackOf, has, push, step, answers, lastOf, answersLast, newOf, countIn, placeIn, pushedOf, addedOf, ringAnswers, contents}
 use Rattle.cache.proofs.Steps.{has-append, has-there}
 
 cases : (m n : ℕ) → (m < n) ⊎ (n ≤ m)
@@ -40,17 +39,14 @@ and-snd : (a b : Bool) → (a && b) ≡ true → b ≡ true
 and-snd true b e = e
 and-snd false b e = cc
 
-abbrev typeOf : ℕ → PayloadType
-typeOf n = pick (eqb n 0) Uplink (pick (eqb n 1) Downlink (pick (eqb n 2) Event Command))
-
-type-of-code : (t : PayloadType) → typeOf (codeOf t) ≡ t
-type-of-code Uplink = refl
-type-of-code Downlink = refl
-type-of-code Event = refl
-type-of-code Command = refl
+kind-of-code : (t : PayloadType) → kindOf (codeOf t) ≡ t
+kind-of-code Uplink = refl
+kind-of-code Downlink = refl
+kind-of-code Event = refl
+kind-of-code Command = refl
 
 code-one : (t u : PayloadType) → codeOf t ≡ codeOf u → t ≡ u
-code-one t u e = sym (type-of-code t) ∙ ap typeOf e ∙ type-of-code u
+code-one t u e = sym (kind-of-code t) ∙ ap kindOf e ∙ kind-of-code u
 
 same-eq : (a b : PayloadCache) → sameRecord a b ≡ true → a ≡ b
 unfolding sameRecord
@@ -101,6 +97,33 @@ has-is l r = (
   has-at l r,
   λ i h e. ap (λ (k : List PayloadCache). has k r) (sym (take-length l)) ∙ has-there l i (length l) r r h (le-refl (length l)) (same-is (getD l i r) r .1 e),
 )
+
+-- ---- words: three of a record, whose uplink id fits 16 bits; the other two fields are words as they are
+
+code-small : (t : PayloadType) → codeOf t < 4
+code-small Uplink = omega arith
+code-small Downlink = omega arith
+code-small Event = omega arith
+code-small Command = omega arith
+
+head-code : (c u : ℕ) → c < 4 → u < 65536 → (c * 65536 + u) / 65536 % 4 ≡ c
+head-code c u h k = omega arith
+
+head-id : (c u : ℕ) → u < 65536 → (c * 65536 + u) % 65536 ≡ u
+head-id c u k = omega arith
+
+pub pack-back : (r : PayloadCache) → r .«uplink_id» < 65536 → unpackOf (packOf r) ≡ r
+unfolding packOf unpackOf
+pack-back r h =
+    let t = codeOf (r .«p_type») in
+    let k : kindOf (headOf r / 65536 % 4) ≡ r .«p_type» = ap kindOf (head-code t (r .«uplink_id») (code-small (r .«p_type»)) h) ∙ kind-of-code (r .«p_type») in
+    let u : headOf r % 65536 ≡ r .«uplink_id» = head-id t (r .«uplink_id») h in
+    λ n. record { «p_type» = k n; «uplink_id» = u n; timestamp = r .timestamp; «relay_id» = r .«relay_id» }
+
+-- the same words exactly where the records are the same
+pub pack-same : (a b : PayloadCache) → a .«uplink_id» < 65536 → b .«uplink_id» < 65536
+    → (packOf a ≡ packOf b → sameRecord a b ≡ true) × (sameRecord a b ≡ true → packOf a ≡ packOf b)
+pack-same a b h k = (λ e. same-is a b .1 (sym (pack-back a h) ∙ ap unpackOf e ∙ pack-back b k), λ e. ap packOf (same-eq a b e))
 
 -- ---- the list holds the last n of the records that were added
 

@@ -32,7 +32,7 @@ unfolding has
 has-append [] b r = refl
 has-append (x ∷ xs) b r = ap (λ (t : Bool). sameRecord x r || t) (has-append xs b r) ∙ or-assoc (sameRecord x r) (has xs r) (has b r)
 
-has-more : (l : List PayloadCache) (i : ℕ) (d r : PayloadCache) → i < length l → has (take (i + 1) l) r ≡ (has (take i l) r || sameRecord (getD l i d) r)
+pub has-more : (l : List PayloadCache) (i : ℕ) (d r : PayloadCache) → i < length l → has (take (i + 1) l) r ≡ (has (take i l) r || sameRecord (getD l i d) r)
 unfolding has
 has-more l i d r h =
     ap (λ (n : ℕ). has (take n l) r) (add-one i) ∙ ap (λ (x : List PayloadCache). has x r) (take-suc l i d h) ∙ has-append (take i l) (getD l i d ∷ []) r

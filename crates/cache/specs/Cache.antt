@@ -1,17 +1,17 @@
 -- Duplicate records, and the cache of the last of them: first as a reader thinks of it, a list whose oldest record comes first; then as the
 -- code keeps it, a ring. proofs/Laws.antt shows that the two answer alike. Assumes nothing.
-use Prim.Native.Nat.{ℕ, _+_, _-_, _%_, min}
+use Prim.Native.Nat.{ℕ, _+_, _-_, _*_, _/_, _%_, min}
 use mathlib.Core.Bool.{Bool, true, false, _&&_, _||_}
 use mathlib.Core.List.{List, [], _∷_, _++_}
 use lib.Dec.{ltb, eqb}
-use lib.ListN.{length, take, drop, set, replicate}
+use lib.ListN.{length, getD, take, drop, set, replicate}
 use Rattle.base.specs.Pick.{pick}
 use Rattle.base.specs.Numbers.{cacheSize, cacheMost}
 use Rattle.base.specs.Answers.{Answer, value, number}
 use Rattle.base.specs.declared.Checked.the-variants.{Accepted, Refused as NotMade}
 use Rattle.fields.specs.Header.{codeOf}
 use Rattle.fields.specs.declared.header.PayloadType.{PayloadType}
-use Rattle.fields.specs.declared.header.PayloadType.the-variants.{Uplink}
+use Rattle.fields.specs.declared.header.PayloadType.the-variants.{Uplink, Downlink, Event, Command}
 use Rattle.packets.specs.declared.mesh.MeshPacket.{MeshPacket}
 use Rattle.packets.specs.declared.mesh.Payload.{Payload}
 use Rattle.packets.specs.declared.mesh.Payload.the-variants as payload
@@ -46,6 +46,20 @@ sameRecord a b =
 unfoldable pub has : List PayloadCache → PayloadCache → Bool
 has [] r = false
 has (x ∷ xs) r = sameRecord x r || has xs r
+
+-- ---- a record as three words: type and uplink id, timestamp, relay id
+
+abbrev pub headOf : PayloadCache → ℕ
+headOf r = codeOf (r .«p_type») * 65536 + r .«uplink_id»
+
+unfoldable pub packOf : PayloadCache → List ℕ
+packOf r = headOf r ∷ r .timestamp ∷ r .«relay_id» ∷ []
+
+abbrev pub kindOf : ℕ → PayloadType
+kindOf n = pick (eqb n 0) Uplink (pick (eqb n 1) Downlink (pick (eqb n 2) Event Command))
+
+unfoldable pub unpackOf : List ℕ → PayloadCache
+unpackOf w = rec (kindOf (getD w 0 0 / 65536 % 4)) (getD w 0 0 % 65536) (getD w 1 0) (getD w 2 0)
 
 -- ---- the last n records, oldest first
 

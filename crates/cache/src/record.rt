@@ -1,6 +1,6 @@
 // The record by which a packet is known again. The relay id is its four bytes as one number, so that all four are compared at once.
 ghost use mathlib.Core.Path.{_≡_};
-ghost use Rattle.cache.specs.Cache.{rec, recordOf, sameRecord};
+ghost use Rattle.cache.specs.Cache.{rec, recordOf, sameRecord, kindOf, packOf, unpackOf};
 use fields::PayloadType;
 use packets::MeshPacket;
 use packets::Payload;
@@ -36,6 +36,17 @@ fn stamped(p_type: PayloadType, timestamp: u32, relay_id: u32) -> PayloadCache
     }
 }
 
+fn kind_of(code: u32) -> PayloadType
+    ensures { λ r. ⌜ r ≡ kindOf code ⌝ }
+{
+    match code {
+        0 => PayloadType::Uplink,
+        1 => PayloadType::Downlink,
+        2 => PayloadType::Event,
+        _ => PayloadType::Command,
+    }
+}
+
 impl PayloadCache {
     // The type is the header's, the rest goes by the payload's kind.
     pub fn from_packet(p: MeshPacket) -> PayloadCache
@@ -61,5 +72,30 @@ impl PayloadCache {
             & (self.uplink_id == other.uplink_id)
             & (self.timestamp == other.timestamp)
             & (self.relay_id == other.relay_id)
+    }
+
+    // The record as words, for a cache that lies in words: type and uplink id share the first. Every word has a meaning back.
+    pub fn pack(self) -> [u32; 3]
+        ensures { λ r. ⌜ r ≡ packOf self ⌝ }
+    {
+        let p_type = self.p_type;
+        let code = p_type.to_byte();
+        [
+            code as u32 * 65536 + self.uplink_id as u32,
+            self.timestamp,
+            self.relay_id,
+        ]
+    }
+
+    pub fn unpack(w: [u32; 3]) -> PayloadCache
+        ensures { λ r. ⌜ r ≡ unpackOf w ⌝ }
+    {
+        let p_type = kind_of(w[0] / 65536 % 4);
+        PayloadCache {
+            p_type,
+            uplink_id: (w[0] % 65536) as u16,
+            timestamp: w[1],
+            relay_id: w[2],
+        }
     }
 }

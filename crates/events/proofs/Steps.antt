@@ -4,11 +4,9 @@ use native.Mathlib.Omega.{arith}
 use mathlib.Core.Bool.{Bool, true, false, not}
 use mathlib.Core.Path.{_≡_, refl, sym, ap, _∙_}
 use mathlib.Core.List.{List, [], _∷_, _++_}
-use lib.Dec.{ltb}
 use lib.ListN.{length, take, drop, length-append}
-use borrow.Author.Tests.{lt-ltb, le-ltb, ltb-true, ltb-false}
-use Rattle.base.specs.Pick.{pick}
-use Rattle.base.specs.Numbers.{frameLong, outputShort, micMissing, payloadMost}
+use borrow.Author.Tests.{lt-ltb, le-ltb}
+use Rattle.base.specs.Numbers.{frameLong, outputShort, micMissing}
 use Rattle.base.specs.Blocks.{Block}
 use Rattle.base.specs.Answers.{Frame, bytes, refused, answerOf, outOf}
 use Rattle.base.specs.declared.Written.{Written}
@@ -18,7 +16,6 @@ use Rattle.wire.specs.Lay.{put}
 use Rattle.wire.specs.Number.{beBytes}
 use Rattle.wire.proofs.Laws.Lay.{put-front, two-puts}
 use Rattle.wire.proofs.Laws.Number.{be-length}
-use Rattle.fields.specs.Meta.{unlessRefused}
 use Rattle.fields.proofs.Laws.Meta.{is-refused, not-refused}
 use Rattle.cipher.specs.Words.{prepared, enciphered}
 use Rattle.seal.specs.Stream.{numbered, streamed, sealedOf}

@@ -1,5 +1,5 @@
 -- Each public call of this crate has one outcome. Assumes nothing.
-use mathlib.Core.Path.{refl, sym, ap, _∙_}
+use mathlib.Core.Path.{refl, sym, ap, ap₂, _∙_}
 use mathlib.Core.List.{List}
 use Prim.Native.Nat.{ℕ}
 use denote.Ref.{now}
@@ -22,6 +22,10 @@ use Rattle.mesh_c.proofs.mesh_validate.Kinds as mesh-validate-kinds
 use Rattle.mesh_c.proofs.mesh_validate.Reads as mesh-validate-reads
 use Rattle.mesh_c.proofs.mesh_set_hop_count.Kinds as mesh-set-hop-count-kinds
 use Rattle.mesh_c.proofs.mesh_set_hop_count.Reads as mesh-set-hop-count-reads
+use Rattle.mesh_c.proofs.mesh_cache_clear.Kinds as mesh-cache-clear-kinds
+use Rattle.mesh_c.proofs.mesh_cache_clear.Reads as mesh-cache-clear-reads
+use Rattle.mesh_c.proofs.mesh_cache_add.Kinds as mesh-cache-add-kinds
+use Rattle.mesh_c.proofs.mesh_cache_add.Reads as mesh-cache-add-reads
 
 mesh-encrypt-block : Fixed 2 mesh-encrypt-block-kinds.ps mesh-encrypt-block-kinds.r mesh-encrypt-block-reads.Post
 mesh-encrypt-block κs a x y v w p q = (refl, ap (λ (l : List ℕ). (tt, (l, tt))) (p ∙ sym q))
@@ -49,3 +53,10 @@ mesh-validate κs a x y v w p q = (p .0 ∙ sym (q .0), ap (λ (n : ℕ). (tt, (
 
 mesh-set-hop-count : Fixed 2 mesh-set-hop-count-kinds.ps mesh-set-hop-count-kinds.r mesh-set-hop-count-reads.Post
 mesh-set-hop-count κs a x y v w p q = (p .0 ∙ sym (q .0), ap (λ (l : List ℕ). (tt, (l, (tt, tt)))) (p .1 ∙ sym (q .1)))
+
+mesh-cache-clear : Fixed 1 mesh-cache-clear-kinds.ps mesh-cache-clear-kinds.r mesh-cache-clear-reads.Post
+mesh-cache-clear κs a x y v w p q = (p .0 ∙ sym (q .0), ap (λ (l : List ℕ). (l, (tt, tt))) (p .1 ∙ sym (q .1)))
+
+mesh-cache-add : Fixed 2 mesh-cache-add-kinds.ps mesh-cache-add-kinds.r mesh-cache-add-reads.Post
+mesh-cache-add κs a x y v w p q =
+    (p .0 ∙ sym (q .0), ap₂ (λ (l : List ℕ) (n : ℕ). (l, (tt, (tt, (tt, (tt, (n, tt))))))) (p .1 .0 ∙ sym (q .1 .0)) (p .1 .1 ∙ sym (q .1 .1)))

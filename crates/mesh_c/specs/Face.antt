@@ -13,6 +13,12 @@ use Rattle.mic.specs.Mic.{validateMic}
 use Rattle.mic.specs.declared.Validated.{Validated}
 use Rattle.mic.specs.declared.Validated.the-variants.{Valid, Invalid, Refused as NotValidated}
 use Rattle.hops.specs.Hops.{alone}
+use Rattle.fields.specs.declared.header.TypeRead.{TypeRead}
+use Rattle.fields.specs.declared.header.TypeRead.the-variants.{Kind, Refused as NoKind}
+use Rattle.cache.specs.Cache.{rec}
+use Rattle.cache.specs.declared.ring.CacheAnswer.{CacheAnswer}
+use Rattle.cache.specs.declared.ring.CacheAnswer.the-variants.{New, Seen, Refused as NotAdded}
+use Rattle.packed.specs.Packed.{addAnswer, addWords}
 use Rattle.items.specs.declared.count.OpeningRead.{OpeningRead}
 use Rattle.items.specs.declared.count.OpeningRead.the-variants.{Opening, Refused as NoCount}
 
@@ -51,3 +57,23 @@ abbrev pub validFlag : Validated → ℕ → ℕ
 validFlag Valid f = 1
 validFlag Invalid f = 0
 validFlag (NotValidated n) f = f
+
+-- a record of numbers added to a cache in words: 29 of its type, then 24
+abbrev pub cacheAnswer : List ℕ → ℕ → ℕ → ℕ → TypeRead → CacheAnswer
+cacheAnswer w id time relay (Kind t) = addAnswer w (rec t id time relay)
+cacheAnswer w id time relay (NoKind n) = NotAdded n
+
+abbrev pub cacheWords : List ℕ → ℕ → ℕ → ℕ → TypeRead → List ℕ
+cacheWords w id time relay (Kind t) = addWords w (rec t id time relay)
+cacheWords w id time relay (NoKind n) = w
+
+-- 1 of a new record, 0 of one that was there, and as before where it is refused
+abbrev pub addNumber : CacheAnswer → ℕ
+addNumber New = 0
+addNumber Seen = 0
+addNumber (NotAdded n) = n
+
+abbrev pub newFlag : CacheAnswer → ℕ → ℕ
+newFlag New f = 1
+newFlag Seen f = 0
+newFlag (NotAdded n) f = f

@@ -8,22 +8,29 @@ ghost use Rattle.seal.specs.Stream.{sealedOf};
 ghost use Rattle.items.specs.Items.{countsOf};
 ghost use Rattle.base.specs.Answers.{checkedOf};
 ghost use Rattle.hops.specs.Hops.{hopEdit, leaves};
-ghost use Rattle.mesh_c.specs.Face.{writtenNumber, countNumber, countList, checkedNumber, frameValid, validNumber, validFlag};
+ghost use Rattle.mesh_c.specs.Face.{writtenNumber, countNumber, countList, checkedNumber, frameValid, validNumber, validFlag, cacheAnswer, cacheWords, addNumber, newFlag};
+ghost use Rattle.fields.specs.Header.{typeRead};
+ghost use Rattle.packed.specs.Packed.{clearAnswer, clearWords};
 use aes128::Aes128Key;
 use aes128::encrypt_block;
 use aes128::prepare;
 use base::Checked;
 use base::Written;
+use cache::CacheAnswer;
+use cache::PayloadCache;
 use cipher::Cipher;
 use cipher::encipher;
 use cmac::Mac;
 use cmac::cmac;
+use fields::PayloadType;
+use fields::TypeRead;
 use hops::set_hop_count;
 use items::Command;
 use items::Event;
 use items::OpeningRead;
 use mic::Validated;
 use mic::validate_mic;
+use packed::Words;
 use packets::MeshPacket;
 use packets::MeshRead;
 use seal::encrypt_events_commands;
@@ -175,5 +182,70 @@ pub extern "C" fn mesh_set_hop_count(key: &[u8; 16], frame: &mut [u8], hop_count
     match set_hop_count(frame, hop_count, Aes128Key::from_bytes(*key)) {
         Checked::Accepted => 0,
         Checked::Refused(n) => n,
+    }
+}
+
+// ---- the duplicate cache, in 195 words that the caller holds
+
+// An empty cache of the last `size` records: 0, or 24 with the words as they were.
+#[no_mangle]
+pub extern "C" fn mesh_cache_clear(words: &mut Words, size: u32) -> u8
+    ensures answer { λ r. ⌜ r ≡ checkedNumber (clearAnswer size) ⌝ }
+    ensures words { λ _. ⌜ now (words .exit) ≡ clearWords size (now (words .entry)) ⌝ }
+{
+    match packed::clear(words, size) {
+        Checked::Accepted => 0,
+        Checked::Refused(n) => n,
+    }
+}
+
+fn add_record(
+    words: &mut Words,
+    type_code: u8,
+    uplink_id: u16,
+    timestamp: u32,
+    relay_id: u32,
+) -> CacheAnswer
+    ensures answer { λ r. ⌜ r ≡ cacheAnswer (now (words .entry)) «uplink_id» timestamp «relay_id» (typeRead «type_code») ⌝ }
+    ensures words { λ _. ⌜ now (words .exit) ≡ cacheWords (now (words .entry)) «uplink_id» timestamp «relay_id» (typeRead «type_code») ⌝ }
+{
+    match PayloadType::from_byte(type_code) {
+        TypeRead::Refused(n) => CacheAnswer::Refused(n),
+        TypeRead::Kind(p_type) => packed::add(
+            words,
+            PayloadCache {
+                p_type,
+                uplink_id,
+                timestamp,
+                relay_id,
+            },
+        ),
+    }
+}
+
+// A record added: 0 with 1 in `is_new` where it is new and 0 where it is one of the last, or 29, 24 with nothing changed.
+#[no_mangle]
+pub extern "C" fn mesh_cache_add(
+    words: &mut Words,
+    type_code: u8,
+    uplink_id: u16,
+    timestamp: u32,
+    relay_id: u32,
+    is_new: &mut u8,
+) -> u8
+    ensures answer { λ r. ⌜ r ≡ addNumber (cacheAnswer (now (words .entry)) «uplink_id» timestamp «relay_id» (typeRead «type_code»)) ⌝ }
+    ensures words { λ _. ⌜ now (words .exit) ≡ cacheWords (now (words .entry)) «uplink_id» timestamp «relay_id» (typeRead «type_code») ⌝ }
+    ensures flag { λ _. ⌜ now («is_new» .exit) ≡ newFlag (cacheAnswer (now (words .entry)) «uplink_id» timestamp «relay_id» (typeRead «type_code»)) (now («is_new» .entry)) ⌝ }
+{
+    match add_record(words, type_code, uplink_id, timestamp, relay_id) {
+        CacheAnswer::New => {
+            *is_new = 1;
+            0
+        }
+        CacheAnswer::Seen => {
+            *is_new = 0;
+            0
+        }
+        CacheAnswer::Refused(n) => n,
     }
 }

@@ -2,20 +2,19 @@
 -- to write into: where it answers a number, what it was lent is as before; and after success output beyond the written length is as before.
 -- (That every call ends and does nothing undefined is what a proved function is; that public calls check for themselves is that none has a
 -- `requires`.) Assumes nothing.
-use Prim.Native.Nat.{ℕ, _≤_, _<_}
+use Prim.Native.Nat.{ℕ, _≤_}
 use native.Mathlib.Omega.{arith}
 use mathlib.Core.Bool.{Bool, true, false, not, false≢true}
 use mathlib.Core.Path.{_≡_, refl, sym, ap, _∙_}
-use mathlib.Core.List.{List, [], _∷_, _++_}
+use mathlib.Core.List.{List, _++_}
 use lib.Dec.{ltb, eqb}
 use lib.ListN.{length, take, drop, drop-of-length-le}
 use lib.Seq.{drop-append-le}
-use borrow.Author.Tests.{le-ltb, lt-ltb}
 use Rattle.base.specs.Pick.{pick}
 use Rattle.base.specs.Numbers.{outputShort}
 use Rattle.base.specs.Answers.{Answer, value, number, Frame, bytes, refused, answerOf, outOf, writtenSays, checkedOf, checkedSays}
 use Rattle.base.proofs.Answers.{out-length}
-use Rattle.bodies.specs.Body.{Lent, heldIn}
+use Rattle.bodies.specs.Body.{Lent}
 use Rattle.bodies.specs.Open.{openedBy, sealWire, decryptOf, workAfter}
 use Rattle.bodies.specs.declared.body.Body.{Body}
 use Rattle.bodies.specs.declared.body.Body.the-variants.{Empty, Sealed, Open, Items}

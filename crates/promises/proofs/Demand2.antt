@@ -3,16 +3,15 @@
 -- nothing.
 use Prim.Native.Nat.{ℕ, _+_, _/_, _%_, _≤_, _<_}
 use mathlib.Core.Bool.{Bool, true, false}
-use mathlib.Core.Path.{_≡_, refl, sym, ap, _∙_}
-use mathlib.Core.List.{List, [], _∷_, _++_, foldl, flatten, map}
+use mathlib.Core.Path.{_≡_, refl, ap, _∙_}
+use mathlib.Core.List.{List, [], _++_, foldl, flatten}
 use lib.Dec.{ltb, eqb}
 use lib.ListN.{length, getD}
-use borrow.Author.Tests.{le-ltb, lt-ltb, eq-eqb, ne-eqb}
 use Rattle.base.specs.Pick.{pick}
 use Rattle.base.specs.Lists.{Bytes}
 use Rattle.base.specs.Blocks.{Block}
 use Rattle.base.specs.Numbers.{frameEmpty, frameShort, bodyShort, frameLong}
-use Rattle.base.specs.Answers.{Answer, value, number, Frame, bytes}
+use Rattle.base.specs.Answers.{value, number, bytes}
 use Rattle.wire.specs.Run.{runBytes}
 use Rattle.wire.specs.declared.run.Run.{Run}
 use Rattle.fips197.specs.Aes.{aes}
@@ -21,7 +20,7 @@ use Rattle.cipher.proofs.Laws.{prepared-agrees}
 use Rattle.cmac.specs.Cmac.{tag}
 use Rattle.cmac.specs.State.{begun, absorb1, finished}
 use Rattle.cmac.proofs.Laws.{pieces, tag-same}
-use Rattle.seal.specs.Stream.{numbered, keyBlock, streamed, sealedOf}
+use Rattle.seal.specs.Stream.{keyBlock, sealedOf}
 use Rattle.seal.proofs.Laws.{block-1, block-256, repeats, seal-twice}
 use Rattle.fields.specs.declared.header.PayloadType.the-variants.{Uplink, Downlink, Event, Command}
 use Rattle.items.specs.Items.{openingOf}
@@ -51,6 +50,8 @@ use Rattle.trips.proofs.Sealed as sealed
 use Rattle.cache.specs.Cache.{sameRecord, answersLast, ringAnswers, newOf}
 use Rattle.cache.specs.declared.record.PayloadCache.{PayloadCache}
 use Rattle.cache.proofs.Laws.{same-is, adds-list, last-added}
+use Rattle.packed.specs.Packed.{clearedWords, packedAnswers}
+use Rattle.packed.proofs.Laws.{AllFit, packed-adds-list}
 use Rattle.promises.specs.Says.{numberIn}
 
 -- ---- reading
@@ -171,3 +172,7 @@ same-record = same-is
 -- "The cache answers no exactly if the value equals one of the last size values added": over every sequence of adds to a new cache
 pub cache-answers : (n : ℕ) → 1 ≤ n → n ≤ 64 → (rs : List PayloadCache) → ringAnswers (newOf n .cache) rs ≡ answersLast n [] rs
 cache-answers n h k rs = adds-list n h k rs ∙ last-added n h rs
+
+-- the same of the cache in words, for records whose id fits in 16 bits
+pub packed-cache-answers : (n : ℕ) → 1 ≤ n → n ≤ 64 → (rs : List PayloadCache) → AllFit rs → packedAnswers (clearedWords n) rs ≡ answersLast n [] rs
+packed-cache-answers n h k rs f = packed-adds-list n h k rs f ∙ last-added n h rs

@@ -2,15 +2,15 @@
 -- Assumes nothing.
 use Prim.Native.Nat.{ℕ, _≤_, _<_}
 use mathlib.Core.Bool.{true, false}
-use mathlib.Core.Option.{Option, none}
-use mathlib.Core.Path.{_≡_, ap, _∙_}
+use mathlib.Core.Option.{none}
+use mathlib.Core.Path.{_≡_, ap}
 use mathlib.Core.List.{List, foldl}
 use lib.ListN.{length}
 use Rattle.base.specs.Lists.{Bytes}
 use Rattle.base.specs.Numbers.{hopsNone, hopsMany}
 use Rattle.base.specs.Answers.{Answer, value, number, Frame, bytes, refused, checkedOf, checkedSays}
 use Rattle.fips197.specs.Aes.{aes}
-use Rattle.packets.specs.Read.{meshOf, meshSays}
+use Rattle.packets.specs.Read.{meshOf}
 use Rattle.packets.specs.Write.{meshFrame}
 use Rattle.packets.specs.Seal.{meshDecrypted, meshWork, meshDecoded}
 use Rattle.packets.specs.declared.mesh.MeshPacket.{MeshPacket}
@@ -18,7 +18,7 @@ use Rattle.packets.specs.declared.mesh.MeshRead.the-variants.{Mesh, Refused}
 use Rattle.mic.specs.Mic.{setMic, validateMic, validSays}
 use Rattle.cache.specs.Cache.{recordOf}
 use Rattle.hops.specs.Hops.{alone, counted}
-use Rattle.demand.specs.Demand.{bitOf, mayDiffer, Edit, edited, after, lastAccepted, afterOnly, openedUnder, bytesIn, itemsIn, decrypted, decoded}
+use Rattle.demand.specs.Demand.{bitOf, mayDiffer, Edit, edited, after, lastAccepted, afterOnly, openedUnder, itemsIn, decrypted, decoded}
 use Rattle.demand.proofs.Demand as demand
 
 -- what an accepted edit `e` of the frame `s`, which was read as `p`, leaves; `packet` is what it is read as from now on

@@ -5,7 +5,7 @@ use mathlib.Core.Path.{_≡_, refl, sym, ap, _∙_}
 use mathlib.Core.List.{List, [], _∷_, map}
 use native.Mathlib.Omega.{arith}
 use lib.IntN.{pos, negsuc}
-use Rattle.base.specs.Answers.{Answer, bytes, refused, value, number}
+use Rattle.base.specs.Answers.{bytes, refused, value, number}
 use Rattle.wire.specs.Number.{beMore, beOf, beBytes}
 use Rattle.fields.specs.Header.{typeRead, headerOf, headerSays}
 use Rattle.fields.specs.Freq.{halvedOf, stepsOf, freqWire, hertzOf}
@@ -15,7 +15,6 @@ use Rattle.fields.specs.declared.header.PayloadType.the-variants.{Command}
 use Rattle.items.specs.Items.{badBeat, kept, skipped, cut, pieces, openingOf}
 use Rattle.cache.specs.Cache.{sameRecord, has, push, step, answers, ringAnswers, newOf, addSays}
 use Rattle.cache.specs.declared.record.PayloadCache.{PayloadCache}
-use Rattle.cache.specs.declared.ring.CacheAnswer.{CacheAnswer}
 use Rattle.cache.specs.declared.ring.CacheAnswer.the-variants.{New, Seen}
 use Rattle.cache.proofs.Laws.{same-is, adds-list}
 

@@ -2,14 +2,13 @@
 use Prim.Native.Nat.{ℕ}
 use native.Mathlib.Omega.{arith}
 use mathlib.Core.Bool.{Bool, true, false}
-use mathlib.Core.Path.{_≡_, refl, sym, ap, _∙_}
+use mathlib.Core.Path.{_≡_, refl, sym, _∙_}
 use mathlib.Core.List.{List, _++_}
 use lib.Dec.{ltb, eqb}
 use lib.ListN.{length}
-use borrow.Author.Tests.{eq-eqb}
 use Rattle.base.specs.Pick.{pick}
 use Rattle.base.specs.Numbers.{micMissing}
-use Rattle.base.specs.Answers.{Answer, value, number, Frame, bytes, refused, frameNumber}
+use Rattle.base.specs.Answers.{value, number, Frame, bytes, refused, frameNumber}
 use Rattle.wire.specs.Number.{beBytes}
 use Rattle.bodies.specs.Body.{Lent}
 use Rattle.payloads.specs.Write.{withMic}

@@ -1,12 +1,12 @@
 -- What is read and written again is the same bytes, but for an uplink's two ignored bits. Assumes nothing.
-use Prim.Native.Nat.{ℕ, zero, suc, _+_, _-_, _/_, _%_, _≤_, _<_}
+use Prim.Native.Nat.{ℕ, _+_, _-_, _/_, _%_, _≤_}
 use native.Mathlib.Omega.{arith}
 use mathlib.Core.Bool.{Bool, true, false}
-use mathlib.Core.Path.{_≡_, refl, sym, ap, ap₂, subst, _∙_}
+use mathlib.Core.Path.{_≡_, refl, sym, ap, ap₂, _∙_}
 use mathlib.Core.List.{List, [], _∷_, _++_, append-nil}
 use lib.Dec.{eqb}
 use lib.ListN.{length, getD, take, drop, set, take-append-drop, length-drop, drop-of-length-le, length-set, List·getD-append}
-use lib.Seq.{drop-cons, drop-drop, drop-append-le, take-at, getD-take, getD-drop, length-take-le, set-append-left, take-length}
+use lib.Seq.{drop-cons, drop-drop, drop-append-le, take-at, getD-take, length-take-le, set-append-left}
 use borrow.Author.Tests.{le-ltb, eq-eqb, ne-eqb, eqb-true, eqb-false}
 use Rattle.base.specs.Pick.{pick}
 use Rattle.base.specs.Lists.{from, Bytes}
@@ -17,7 +17,6 @@ use Rattle.wire.specs.Part.{reachOf, partOf}
 use Rattle.fields.specs.Header.{headerOf, codeOf}
 use Rattle.fields.specs.declared.header.MHDR.{MHDR}
 use Rattle.fields.specs.declared.header.HeaderRead.the-variants.{Header}
-use Rattle.fields.specs.Meta.{unlessRefused}
 use Rattle.fields.specs.declared.header.PayloadType.{PayloadType}
 use Rattle.fields.specs.declared.header.PayloadType.the-variants.{Uplink, Downlink, Event, Command}
 use Rattle.fields.proofs.Laws.Header.{marked, not-marked}
@@ -56,7 +55,7 @@ use Rattle.packets.specs.declared.mesh.PayloadRead.the-variants.{Payload as Pay
 use Rattle.packets.specs.declared.mesh.MeshPacket.{MeshPacket}
 use Rattle.packets.specs.declared.mesh.MeshRead.the-variants.{Mesh}
 use Rattle.trips.proofs.Which.{body-length}
-use Rattle.trips.proofs.Again.{Read, was-read, read-written}
+use Rattle.trips.proofs.Again.{was-read, read-written}
 
 pub body-bytes : (s : List ℕ) → Bytes s → Bytes (bodyIn s)
 body-bytes s h = take-lt (length s - 4 - 1) (drop 1 s) (drop-lt 1 s h)

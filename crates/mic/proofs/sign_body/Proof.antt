@@ -3,7 +3,7 @@ use Prim.Native.Nat.{ℕ}
 use native.Mathlib.Omega.{arith}
 use mir.Val.{Fits}
 use mir.Syntax.{w8}
-use mathlib.Core.List.{List, [], _∷_, foldl}
+use mathlib.Core.List.{[], _∷_, foldl}
 use lib.ListN.{length, getD}
 use mathlib.Core.Path.{_≡_, ap, _∙_}
 use denote.Ref.{now}
@@ -12,7 +12,7 @@ use Rattle.fips197.specs.Aes.{aes}
 use Rattle.cipher.specs.Words.{enciphered}
 use Rattle.cmac.specs.State.{absorb1}
 use Rattle.cmac.specs.declared.Mac.{Mac}
-use Rattle.bodies.specs.Body.{Lent, lent, bodyBytes}
+use Rattle.bodies.specs.Body.{lent, bodyBytes}
 use Rattle.mic.proofs.Steps.{unsigned, signs, over, wire-refused, wire-bytes, mic-is}
 use Rattle.composed.proofs.Laws.{capped-is, capped-over}
 use borrow.Author.Needs.{needs}

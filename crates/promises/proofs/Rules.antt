@@ -1,0 +1,207 @@
+-- Document 01's rules on fields, keys, items and least lengths, each beside its sentence. Assumes nothing.
+use Prim.Native.Nat.{ℕ, _+_, _-_, _*_, _/_, _%_, _≤_, _<_}
+use native.Mathlib.Omega.{arith}
+use mathlib.Core.Bool.{Bool, true, false}
+use mathlib.Core.Path.{_≡_, refl, ap, _∙_}
+use mathlib.Core.List.{List, [], _∷_}
+use lib.IntN.{ℤ, pos, negℤ}
+use lib.ListN.{length, getD, replicate}
+use borrow.Author.Tests.{lt-ltb, le-ltb, eq-eqb, ne-eqb}
+use Rattle.base.specs.Lists.{Bytes}
+use Rattle.base.specs.Blocks.{Block}
+use Rattle.base.specs.Numbers.{hopsNone, hopsMany, notMesh, typeLarge, keyLength, keyDigit, frequencyLength, bodyShort, cacheSize, itemLong, heartbeatLength, outputShort}
+use Rattle.base.specs.Answers.{value, number, bytes, checkedSays}
+use Rattle.wire.specs.Hex.{allHex, unhex, hexText}
+use Rattle.fips197.specs.Aes.{aes}
+use Rattle.aes128.specs.Key.{keyOf, keySays, keyFromSlice, keyFromText, signingKey, encryptionKey}
+use Rattle.aes128.proofs.Laws.{text-back}
+use Rattle.fields.specs.Header.{typeRead, codeOf, headerOf, headerByte, typeSays, headerSays, byteSays}
+use Rattle.fields.specs.Freq.{freqWire, hertzOf, freqRead, freqSays}
+use Rattle.fields.specs.Signal.{rssiOf, rssiByte, snrOf, snrByte, signalSays}
+use Rattle.fields.specs.Meta.{upOf, upWire, downOf, downWire}
+use Rattle.fields.specs.Path.{pathOf, pathWire}
+use Rattle.fields.specs.declared.header.MHDR.{MHDR}
+use Rattle.fields.specs.declared.header.PayloadType.{PayloadType}
+use Rattle.fields.specs.declared.meta.UplinkMetadata.{UplinkMetadata}
+use Rattle.fields.specs.declared.path.RelayPath.{RelayPath}
+use Rattle.fields.proofs.Laws.Header.{type-back, header-back, header-again, not-marked}
+use Rattle.fields.proofs.Laws.Freq.{freq-again}
+use Rattle.fields.proofs.Laws.Signal.{rssi-back, rssi-again, snr-back, snr-again}
+use Rattle.fields.proofs.Laws.Meta.{up-back, up-again, down-again}
+use Rattle.fields.proofs.Laws.Path.{path-back, path-again}
+use Rattle.fields.specs.declared.header.HeaderByte.the-variants.{Byte}
+use Rattle.fields.specs.declared.header.HeaderRead.the-variants.{Header}
+use Rattle.fields.specs.declared.signal.SignalByte.the-variants as signal
+use Rattle.heartbeats.specs.Heartbeat.{pathsOf, beatRefusal, beatOf, beatWire, beatSays}
+use Rattle.heartbeats.proofs.Laws.{Ids, beat-back}
+use Rattle.items.specs.Items.{itemAt}
+use Rattle.items.proofs.Laws.{Turn, turn}
+use Rattle.packets.specs.Read.{meshOf, meshSays}
+use Rattle.trips.specs.Which.{leastFrame, numberOf}
+use Rattle.cache.specs.Cache.{newOf}
+use Rattle.promises.specs.Says.{numberIn}
+use Rattle.promises.proofs.Demand2.{mesh-reader}
+
+-- ---- the header byte
+
+-- "Header byte: 111, two bits of type, three bits of hop count minus 1"
+pub header-byte : (t : PayloadType) (n : ℕ) → 1 ≤ n → n ≤ 8 → byteSays (headerByte (record { «payload_type» = t; «hop_count» = n })) ≡ value (224 + codeOf t * 8 + (n - 1))
+unfolding headerByte
+header-byte t n l m = simp (le-ltb n 1 l, le-ltb 8 n m)
+
+-- 6, 7: hop count 0; over 8
+pub hop-count-none : (t : PayloadType) → byteSays (headerByte (record { «payload_type» = t; «hop_count» = 0 })) ≡ number hopsNone
+unfolding headerByte
+hop-count-none t = refl
+
+pub hop-count-many : (t : PayloadType) (n : ℕ) → 8 < n → byteSays (headerByte (record { «payload_type» = t; «hop_count» = n })) ≡ number hopsMany
+unfolding headerByte
+hop-count-many t n l = let k : 1 ≤ n = omega arith in simp (le-ltb n 1 k, lt-ltb 8 n l)
+
+-- written and read back, read and written again; 3 where the top three bits are not 111
+pub header-written-then-read : (h : MHDR) (b : ℕ) → headerByte h ≡ Byte b → headerSays (headerOf b) ≡ value h
+header-written-then-read h b e = ap headerSays (header-back h b e)
+
+pub header-read-then-written : (b : ℕ) → b < 256 → (h : MHDR) → headerOf b ≡ Header h → byteSays (headerByte h) ≡ value b
+header-read-then-written b l h e = ap byteSays (header-again b l h e)
+
+pub header-not-mesh : (b : ℕ) → (b / 32 ≡ 7 → ⊥) → headerSays (headerOf b) ≡ number notMesh
+header-not-mesh b h = ap headerSays (not-marked b h)
+
+-- 29: type code over 3; each type's code reads back as it
+pub type-code-large : (n : ℕ) → 3 < n → typeSays (typeRead n) ≡ number typeLarge
+unfolding typeRead
+type-code-large n l = simp (ne-eqb n 0 (λ z. omega arith), ne-eqb n 1 (λ z. omega arith), ne-eqb n 2 (λ z. omega arith), ne-eqb n 3 (λ z. omega arith))
+
+pub type-code-read : (t : PayloadType) → typeSays (typeRead (codeOf t)) ≡ value t
+type-code-read t = ap typeSays (type-back t)
+
+-- ---- rssi, snr, frequency
+
+-- "Rssi is minus the byte"
+pub rssi-is-minus-the-byte : (b : ℕ) → b < 256 → (rssiOf b ≡ negℤ (pos b)) × (signalSays (rssiByte (rssiOf b)) ≡ value b)
+unfolding rssiOf
+rssi-is-minus-the-byte b h = (refl, ap signalSays (rssi-again b h))
+
+pub rssi-written-then-read : (x : ℤ) (b : ℕ) → rssiByte x ≡ signal.Byte b → rssiOf b ≡ x
+rssi-written-then-read = rssi-back
+
+-- "Snr is the low six bits as a signed number; the top two bits are ignored and written as 0"
+pub snr-read-then-written : (b : ℕ) → b < 256 → signalSays (snrByte (snrOf b)) ≡ value (b % 64)
+snr-read-then-written b h = ap signalSays (snr-again b h)
+
+pub snr-written-then-read : (x : ℤ) (b : ℕ) → snrByte x ≡ signal.Byte b → snrOf b ≡ x
+snr-written-then-read = snr-back
+
+-- three bytes of frequency, read and written, are the same bytes; 28: not 3 bytes
+pub frequency-read-then-written : (a b c : ℕ) → a < 256 → b < 256 → c < 256 → freqWire (hertzOf a b c) ≡ bytes (a ∷ b ∷ c ∷ [])
+frequency-read-then-written = freq-again
+
+pub frequency-not-three-bytes : (s : List ℕ) → (length s ≡ 3 → ⊥) → freqSays (freqRead s) ≡ number frequencyLength
+unfolding freqRead
+frequency-not-three-bytes s h = simp (ne-eqb (length s) 3 h)
+
+-- ---- metadata and path entries
+
+pub uplink-metadata-read-then-written : (b : List ℕ) → length b ≡ 5 → Bytes b
+    → upWire (upOf b) ≡ bytes (getD b 0 0 ∷ getD b 1 0 ∷ getD b 2 0 ∷ (getD b 3 0 % 64) ∷ getD b 4 0 ∷ [])
+uplink-metadata-read-then-written = up-again
+
+pub uplink-metadata-written-then-read : (m : UplinkMetadata) (w : List ℕ) → m .channel < 256 → upWire m ≡ bytes w → upOf w ≡ m
+uplink-metadata-written-then-read m w h e = up-back m w h e .2
+
+pub downlink-metadata-read-then-written : (b : List ℕ) → length b ≡ 6 → Bytes b
+    → downWire (downOf b) ≡ bytes (getD b 0 0 ∷ getD b 1 0 ∷ getD b 2 0 ∷ getD b 3 0 ∷ getD b 4 0 ∷ getD b 5 0 ∷ [])
+downlink-metadata-read-then-written = down-again
+
+pub path-entry-read-then-written : (b : List ℕ) → length b ≡ 6 → Bytes b
+    → pathWire (pathOf b) ≡ bytes (getD b 0 0 ∷ getD b 1 0 ∷ getD b 2 0 ∷ getD b 3 0 ∷ getD b 4 0 ∷ (getD b 5 0 % 64) ∷ [])
+path-entry-read-then-written = path-again
+
+pub path-entry-written-then-read : (p : RelayPath) (w : List ℕ) → p .«relay_id» < 4294967296 → pathWire p ≡ bytes w → pathOf w ≡ p
+path-entry-written-then-read p w h e = path-back p w h e .2
+
+-- ---- least frame lengths
+
+-- "uplink 14, downlink 15, event and command 13; one byte less gives 4": of a frame of 5 to 8,192 bytes whose first byte begins with 111
+abbrev isMesh : List ℕ → Type 0
+isMesh s = (5 ≤ length s) × (length s ≤ 8192) × (getD s 0 0 / 32 ≡ 7)
+
+pub long-enough : (s : List ℕ) → isMesh s → leastFrame (getD s 0 0 / 8 % 4) ≤ length s → numberIn (meshSays (meshOf s)) ≡ 0
+unfolding numberOf
+long-enough s m l =
+    let a : 5 ≤ length s = m .0 in
+    let b : length s ≤ 8192 = m .1 in
+    mesh-reader s
+    ∙ simp (ne-eqb (length s) 0 (λ z. omega arith), le-ltb 8192 (length s) b, le-ltb (length s) 5 a, eq-eqb (getD s 0 0 / 32) 7 (m .2), le-ltb (length s) (leastFrame (getD s 0 0 / 8 % 4)) l)
+
+pub one-byte-less : (s : List ℕ) → isMesh s → length s < leastFrame (getD s 0 0 / 8 % 4) → numberIn (meshSays (meshOf s)) ≡ bodyShort
+unfolding numberOf
+one-byte-less s m l =
+    let a : 5 ≤ length s = m .0 in
+    let b : length s ≤ 8192 = m .1 in
+    mesh-reader s
+    ∙ simp (ne-eqb (length s) 0 (λ z. omega arith), le-ltb 8192 (length s) b, le-ltb (length s) 5 a, eq-eqb (getD s 0 0 / 32) 7 (m .2), lt-ltb (length s) (leastFrame (getD s 0 0 / 8 % 4)) l)
+
+-- ---- keys
+
+-- 25, 26: "Key text: length before digits"
+pub key-not-sixteen : (s : List ℕ) → (length s ≡ 16 → ⊥) → keySays (keyFromSlice s) ≡ number keyLength
+unfolding keyFromSlice
+key-not-sixteen s h = simp (ne-eqb (length s) 16 h)
+
+pub key-text-not-thirty-two : (s : List ℕ) → (length s ≡ 32 → ⊥) → keySays (keyFromText s) ≡ number keyLength
+unfolding keyFromText
+key-text-not-thirty-two s h = simp (ne-eqb (length s) 32 h)
+
+pub key-text-not-hex : (s : List ℕ) → length s ≡ 32 → allHex s ≡ false → keySays (keyFromText s) ≡ number keyDigit
+unfolding keyFromText
+key-text-not-hex s h e = simp (eq-eqb (length s) 32 h, e)
+
+pub key-text-read : (s : List ℕ) → length s ≡ 32 → allHex s ≡ true → keySays (keyFromText s) ≡ value (keyOf (unhex s))
+unfolding keyFromText
+key-text-read s h e = simp (eq-eqb (length s) 32 h, e)
+
+pub key-written-then-read : (k : List ℕ) → Block k → keySays (keyFromText (hexText k)) ≡ value (keyOf k)
+key-written-then-read k b = ap keySays (text-back k b)
+
+-- "Signing key: E of 16 zeros under the root key. Encryption key: E of 01 and 15 zeros"
+pub derived-keys : (root : List ℕ) → (signingKey root ≡ aes root (replicate 16 0)) × (encryptionKey root ≡ aes root (1 ∷ replicate 15 0))
+unfolding signingKey encryptionKey
+derived-keys root = (refl, refl)
+
+-- ---- items and heartbeats
+
+-- "An item reader answers one item at a time: kept, skipped, cut, or none from the end on": what it answers at a place, as `Turn` says, is
+-- the first of the payload's pieces from there, and where the next begins
+pub one-item-at-a-time : (ev : Bool) (s : List ℕ) (at : ℕ) → Turn ev s at (itemAt ev s at)
+one-item-at-a-time ev s at = turn ev s at (itemAt ev s at) refl
+
+-- "Heartbeat value: 19, 20, 21"
+pub heartbeat-long : (v : List ℕ) (places : ℕ) → 255 < length v → beatSays (beatOf v places) ≡ number itemLong
+unfolding beatOf beatRefusal
+heartbeat-long v places h = simp (lt-ltb 255 (length v) h)
+
+pub heartbeat-uneven : (v : List ℕ) (places : ℕ) → length v ≤ 255 → 0 < length v % 6 → beatSays (beatOf v places) ≡ number heartbeatLength
+unfolding beatOf beatRefusal
+heartbeat-uneven v places h e = simp (le-ltb 255 (length v) h, lt-ltb 0 (length v % 6) e)
+
+pub heartbeat-without-places : (v : List ℕ) (places : ℕ) → length v ≤ 255 → length v % 6 ≡ 0 → places < length v / 6 → beatSays (beatOf v places) ≡ number outputShort
+unfolding beatOf beatRefusal
+heartbeat-without-places v places h e l =
+    let z : length v % 6 ≤ 0 = omega arith in
+    simp (le-ltb 255 (length v) h, le-ltb 0 (length v % 6) z, lt-ltb places (length v / 6) l)
+
+pub heartbeat-written-then-read : (ps : List RelayPath) (w : List ℕ) → Ids ps → beatWire ps ≡ bytes w → pathsOf w ≡ ps
+heartbeat-written-then-read ps w h e = beat-back ps w h e .2
+
+-- ---- the cache's size
+
+-- 24: cache size 0 or over 64
+pub cache-of-none : checkedSays (newOf 0 .answer) (newOf 0 .cache) ≡ number cacheSize
+unfolding newOf
+cache-of-none = refl
+
+pub cache-too-large : (n : ℕ) → 64 < n → checkedSays (newOf n .answer) (newOf n .cache) ≡ number cacheSize
+unfolding newOf
+cache-too-large n h = let k : 1 ≤ n = omega arith in simp (le-ltb n 1 k, lt-ltb 64 n h)
