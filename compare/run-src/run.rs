@@ -1,0 +1,449 @@
+//! run: makes requests, asks two answering commands and compares every answer. See compare/run.
+#[path = "cipher.rs"]
+mod cipher;
+#[path = "maker.rs"]
+mod maker;
+#[path = "rules.rs"]
+mod rules;
+#[path = "shrink.rs"]
+mod shrink;
+
+use rules::{Pair, RULES};
+use std::collections::BTreeMap;
+use std::io::{BufRead, BufReader, IsTerminal, Write};
+use std::process::{exit, Child, ChildStdout, Command, Stdio};
+use std::sync::mpsc::{sync_channel, SyncSender};
+use std::sync::Arc;
+use std::time::{Duration, Instant};
+
+const BATCH: usize = 2000;
+
+/// an answering command, fed by a thread of its own
+struct Answerer {
+    name: String,
+    child: Child,
+    lines: SyncSender<Arc<Vec<u8>>>,
+    answers: BufReader<ChildStdout>,
+}
+
+impl Answerer {
+    fn start(name: &str, command: &str) -> Self {
+        let said = Command::new("sh").arg("-c").arg(command).stdin(Stdio::piped()).stdout(Stdio::piped()).spawn();
+        let mut child = said.unwrap_or_else(|e| {
+            eprintln!("run: {command}: {e}");
+            exit(2)
+        });
+        let mut to = child.stdin.take().unwrap();
+        let answers = BufReader::with_capacity(1 << 16, child.stdout.take().unwrap());
+        let (lines, taken) = sync_channel::<Arc<Vec<u8>>>(4);
+        std::thread::spawn(move || {
+            for lines in taken {
+                if to.write_all(&lines).and_then(|_| to.flush()).is_err() {
+                    return;
+                }
+            }
+        });
+        Answerer { name: name.into(), child, lines, answers }
+    }
+
+    fn send(&self, lines: &Arc<Vec<u8>>) {
+        // if it has gone, its next answer will be missed
+        let _ = self.lines.send(lines.clone());
+    }
+
+    fn answer(&mut self, request: &[u8], out: &mut Vec<u8>) {
+        out.clear();
+        let n = self.answers.read_until(b'\n', out).unwrap_or(0);
+        if n == 0 || out.pop() != Some(b'\n') {
+            eprintln!("run: {} has stopped answering, here or a little later: {}", self.name, brief(request));
+            kept(&[(request, b"", b"")]);
+            exit(2);
+        }
+    }
+
+    fn ask(&mut self, request: &[u8]) -> Vec<u8> {
+        self.send(&Arc::new([request, b"\n"].concat()));
+        let mut out = Vec::new();
+        self.answer(request, &mut out);
+        out
+    }
+}
+
+fn word(answer: &[u8]) -> &[u8] {
+    answer.split(|c| *c == b' ').next().unwrap_or(answer)
+}
+
+fn same(request: &[u8], left: &[u8], right: &[u8]) -> bool {
+    if left == right || (word(left) == b"bad" && word(right) == b"bad") {
+        return true;
+    }
+    // what is the oracle's alone
+    word(request) == b"backend" || word(request) == b"cachenum" && (word(right) == b"bad" || word(left) == b"bad")
+}
+
+fn panicked(answer: &[u8]) -> bool {
+    word(answer) == b"panic"
+}
+
+struct Options {
+    left: String,
+    right: String,
+    raw: Option<String>,
+    no_raw: bool,
+    smallest: bool,
+    file: Option<String>,
+    seed: u64,
+    count: u64,
+}
+
+fn options() -> Options {
+    let here = std::env::var("COMPARE").unwrap_or_else(|_| "compare".into());
+    let mut o = Options {
+        left: format!("{here}/oracle"),
+        right: format!("{here}/port"),
+        raw: None,
+        no_raw: false,
+        smallest: false,
+        file: None,
+        seed: 1,
+        count: 100_000,
+    };
+    let mut args = std::env::args().skip(1);
+    let mut numbers = Vec::new();
+    let usage = || -> ! {
+        eprintln!("usage: compare/run [OPTION..] [SEED] [COUNT]; the options stand at the head of compare/run");
+        exit(2)
+    };
+    while let Some(a) = args.next() {
+        let mut value = || args.next().unwrap_or_else(|| usage());
+        match a.as_str() {
+            "--left" => o.left = value(),
+            "--right" => o.right = value(),
+            "--raw" => o.raw = Some(value()),
+            "--no-raw" => o.no_raw = true,
+            "--rust" => {
+                let folder = value();
+                std::env::set_var("LEMIKANTO_RUST", folder);
+            }
+            "--smallest" => o.smallest = true,
+            "--file" => o.file = Some(value()),
+            n => numbers.push(n.parse().unwrap_or_else(|_| usage())),
+        }
+    }
+    match numbers[..] {
+        [] => {}
+        [seed] => o.seed = seed,
+        [seed, count] => (o.seed, o.count) = (seed, count),
+        _ => usage(),
+    }
+    o
+}
+
+/// a difference in full, each request with its two answers
+fn kept(all: &[(&[u8], &[u8], &[u8])]) {
+    let Ok(file) = std::env::var("COMPARE_DIFFERENCE") else { return };
+    let bytes: Vec<u8> = all.iter().flat_map(|(q, a, b)| [q, &b"\n"[..], a, b"\n", b, b"\n\n"].concat()).collect();
+    if std::fs::write(&file, bytes).is_ok() {
+        println!("in full in {file}");
+    }
+}
+
+/// (requests, ok, and each refusal number) of a kind
+type Tally = BTreeMap<Vec<u8>, BTreeMap<Vec<u8>, u64>>;
+
+fn tallied(answer: &[u8]) -> Vec<u8> {
+    match word(answer) {
+        b"no" => answer.to_vec(),
+        b"ok" if answer.starts_with(b"ok refused") => answer[3..].to_vec(),
+        w => w.to_vec(),
+    }
+}
+
+struct Run {
+    left: Answerer,
+    right: Answerer,
+    raw: Option<Answerer>,
+    kinds: Tally,
+    sevens: (u64, Vec<u8>),
+    ruled: Vec<(u64, Vec<u8>)>,
+}
+
+impl Run {
+    /// whether left and right differ other than by D7
+    fn differ(&mut self, request: &[u8], left: &[u8], right: &[u8]) -> bool {
+        if same(request, left, right) {
+            return false;
+        }
+        match rules::cleared(request) {
+            Some(other) => self.left.ask(&other) != right,
+            None => true,
+        }
+    }
+
+    fn asked(&mut self, request: &[u8]) -> (Vec<u8>, Vec<u8>) {
+        (self.left.ask(request), self.right.ask(request))
+    }
+
+    fn found(&mut self, request: &[u8], left: &[u8], right: &[u8]) -> ! {
+        let bad = word(left) == b"bad" || word(right) == b"bad";
+        let small = shrink::smallest(request, &mut |c| {
+            let (l, r) = self.asked(c);
+            let malformed = word(&l) == b"bad" || word(&r) == b"bad";
+            (bad || !malformed) && (self.differ(c, &l, &r) || panicked(&l) || panicked(&r))
+        });
+        println!("\na difference\n  request {}\n  left    {}\n  right   {}", brief(request), brief(left), brief(right));
+        let (l, r) = self.asked(&small);
+        if small != request {
+            println!("smaller\n  request {}\n  left    {}\n  right   {}", brief(&small), brief(&l), brief(&r));
+        }
+        kept(&[(request, left, right), (&small, &l, &r)]);
+        exit(1)
+    }
+
+    fn unruled(&mut self, request: &[u8], left: &[u8], raw: &[u8]) -> ! {
+        let small = shrink::smallest(request, &mut |c| {
+            let (l, r) = (self.left.ask(c), self.raw.as_mut().unwrap().ask(&[b"raw ", c].concat()));
+            word(&l) != b"bad" && l != r && Pair::new(c, &l, &r).rule().is_none()
+        });
+        println!("\nraw and oracle differ, and no entry of docs/DIFFERENCES.md takes it");
+        println!("  request {}\n  oracle  {}\n  raw     {}", brief(request), brief(left), brief(raw));
+        let (l, r) = (self.left.ask(&small), self.raw.as_mut().unwrap().ask(&[b"raw ", &small[..]].concat()));
+        if small != request {
+            println!("smaller\n  request {}\n  oracle  {}\n  raw     {}", brief(&small), brief(&l), brief(&r));
+        }
+        kept(&[(request, left, raw), (&small, &l, &r)]);
+        exit(1)
+    }
+
+    /// the shortest request of a rule, made smaller while the rule takes it
+    fn smallest(&mut self, rule: usize) -> Vec<u8> {
+        let from = self.ruled[rule].1.clone();
+        shrink::smallest(&from, &mut |c| {
+            let (l, r) = (self.left.ask(c), self.raw.as_mut().unwrap().ask(&[b"raw ", c].concat()));
+            l != r && Pair::new(c, &l, &r).rule() == Some(rule)
+        })
+    }
+}
+
+fn main() {
+    let o = options();
+    let here = std::env::var("COMPARE").unwrap_or_else(|_| "compare".into());
+    let listed = std::fs::read_to_string(format!("{here}/../docs/DIFFERENCES.md")).unwrap_or_default();
+    let mut run = Run {
+        left: Answerer::start("left", &o.left),
+        right: Answerer::start("right", &o.right),
+        raw: if o.no_raw { None } else { Some(Answerer::start("raw", o.raw.as_ref().unwrap_or(&o.left))) },
+        kinds: BTreeMap::new(),
+        sevens: (0, Vec::new()),
+        ruled: vec![(0, Vec::new()); RULES.len()],
+    };
+    let mut maker = maker::Maker::new(o.seed);
+    let mut file = o.file.as_ref().map(|f| {
+        BufReader::new(std::fs::File::open(f).unwrap_or_else(|e| {
+            eprintln!("run: {f}: {e}");
+            exit(2)
+        }))
+    });
+    let tty = std::io::stderr().is_terminal();
+    let start = Instant::now();
+    let mut told = start;
+    let (mut made, mut done) = (0u64, 0u64);
+    let (mut l, mut r, mut w) = (Vec::new(), Vec::new(), Vec::new());
+    let mut waiting: Option<Arc<Vec<u8>>> = None;
+    loop {
+        // the next requests are on their way while the last are compared
+        let mut lines = Vec::new();
+        let mut raws = Vec::new();
+        let mut n = 0;
+        while n < BATCH && lines.len() < 1 << 20 {
+            let from = lines.len();
+            match &mut file {
+                None if made == o.count => break,
+                None => maker.next(&mut lines),
+                Some(f) => {
+                    if f.read_until(b'\n', &mut lines).unwrap_or(0) == 0 {
+                        break;
+                    }
+                    if lines.last() == Some(&b'\n') {
+                        lines.pop();
+                    }
+                    if lines[from..].starts_with(b"raw ") {
+                        lines.truncate(from);
+                        continue;
+                    }
+                }
+            }
+            lines.push(b'\n');
+            raws.extend_from_slice(b"raw ");
+            raws.extend_from_slice(&lines[from..]);
+            made += 1;
+            n += 1;
+        }
+        let lines = Arc::new(lines);
+        run.left.send(&lines);
+        run.right.send(&lines);
+        if let Some(a) = &run.raw {
+            a.send(&Arc::new(raws));
+        }
+        let last = waiting.replace(lines);
+        let Some(last) = last else { continue };
+        if last.is_empty() {
+            break;
+        }
+        // a difference takes questions of its own: they come behind those that are on their way
+        let mut differing: Vec<(Vec<u8>, Vec<u8>, Vec<u8>, Option<Vec<u8>>)> = Vec::new();
+        for request in last[..last.len() - 1].split(|c| *c == b'\n') {
+            run.left.answer(request, &mut l);
+            run.right.answer(request, &mut r);
+            *run.kinds.entry(kind_of(request)).or_default().entry(tallied(&l)).or_default() += 1;
+            done += 1;
+            let odd = !same(request, &l, &r) || panicked(&l) || panicked(&r);
+            let mut unlike = false;
+            if let Some(a) = &mut run.raw {
+                a.answer(request, &mut w);
+                if l != w && !(word(&l) == b"bad" && word(&w) == b"bad") {
+                    match Pair::new(request, &l, &w).rule() {
+                        Some(i) => {
+                            let seen = &mut run.ruled[i];
+                            seen.0 += 1;
+                            if seen.1.is_empty() || size(request) < size(&seen.1) {
+                                seen.1 = request.to_vec();
+                            }
+                        }
+                        None => unlike = true,
+                    }
+                    unlike |= panicked(&w);
+                }
+            }
+            if (odd || unlike) && differing.len() < 1000 {
+                differing.push((request.to_vec(), l.clone(), r.clone(), unlike.then(|| w.clone())));
+            }
+        }
+        if !differing.is_empty() {
+            // take up the answers that are still to come, then ask
+            let ahead = waiting.take().unwrap();
+            let count = ahead.iter().filter(|c| **c == b'\n').count();
+            for request in ahead.split(|c| *c == b'\n').take(count) {
+                run.left.answer(request, &mut l);
+                run.right.answer(request, &mut r);
+                if let Some(a) = &mut run.raw {
+                    a.answer(request, &mut w);
+                }
+            }
+            // of several at a time the smallest
+            differing.sort_by_key(|d| size(&d.0));
+            for (request, l, r, unlike) in differing {
+                if panicked(&l) || panicked(&r) || run.differ(&request, &l, &r) {
+                    run.found(&request, &l, &r);
+                }
+                if let Some(raw) = unlike {
+                    run.unruled(&request, &l, &raw);
+                }
+                run.sevens.0 += 1;
+                if run.sevens.1.is_empty() || request.len() < run.sevens.1.len() {
+                    run.sevens.1 = request;
+                }
+            }
+            // those that were taken up are asked again: answers depend on nothing but their request
+            if count > 0 {
+                run.left.send(&ahead);
+                run.right.send(&ahead);
+                if let Some(a) = &run.raw {
+                    let raws: Vec<u8> =
+                        ahead[..ahead.len() - 1].split(|c| *c == b'\n').flat_map(|q| [b"raw ", q, b"\n"].concat()).collect();
+                    a.send(&Arc::new(raws));
+                }
+            }
+            waiting = Some(ahead);
+        }
+        if tty && told.elapsed() > Duration::from_millis(300) {
+            told = Instant::now();
+            let all = if o.file.is_some() { String::new() } else { format!(" of {}", o.count) };
+            eprint!("\r{done}{all} requests, {:.0} a second ", done as f64 / start.elapsed().as_secs_f64());
+        }
+    }
+    let seconds = start.elapsed().as_secs_f64();
+    if tty {
+        eprintln!();
+    }
+    let mut numbers: BTreeMap<(u32, String), u64> = BTreeMap::new();
+    println!("kind           requests        ok   refused       bad");
+    for (kind, answers) in &run.kinds {
+        let (mut ok, mut no, mut bad) = (0, 0, 0);
+        for (a, n) in answers {
+            let a = String::from_utf8_lossy(a).to_string();
+            match a.as_str() {
+                "ok" => ok += n,
+                "bad" => bad += n,
+                _ => no += n,
+            }
+            let number = a.split(' ').nth(1).and_then(|t| t.parse().ok()).unwrap_or(0);
+            *numbers.entry((number, if a.starts_with("refused") { format!("no {number}") } else { a })).or_default() += n;
+        }
+        println!("{:12} {:10} {ok:9} {no:9} {bad:9}", String::from_utf8_lossy(kind), ok + no + bad);
+    }
+    let list: Vec<String> = numbers.iter().map(|((_, a), n)| format!("{a}: {n}")).collect();
+    println!("answers   {}", list.join(", "));
+    if run.raw.is_some() {
+        println!("where the oracle is not the plain Rust, by entry of docs/DIFFERENCES.md");
+        for i in 0..RULES.len() {
+            let rule = &RULES[i];
+            let lost = if listed.contains(&format!("| {} |", rule.entry)) { "" } else { " (not listed there)" };
+            println!("  {:4} {:9}  {}{lost}", rule.entry, run.ruled[i].0, rule.what);
+            if o.smallest && run.ruled[i].0 > 0 {
+                let small = run.smallest(i);
+                let (a, b) = (run.left.ask(&small), run.raw.as_mut().unwrap().ask(&[b"raw ", &small[..]].concat()));
+                println!("         {}\n         oracle {}\n         raw    {}", brief(&small), brief(&a), brief(&b));
+            }
+        }
+    }
+    if run.sevens.0 > 0 {
+        println!(
+            "where right is not left\n  D7   {:9}  ignored bits of an event's item of tag 0; the shortest: {}",
+            run.sevens.0,
+            brief(&run.sevens.1)
+        );
+    }
+    println!("{done} requests, no difference, {seconds:.1} s, {:.0} a second", done as f64 / seconds);
+    for mut a in [Some(run.left), Some(run.right), run.raw].into_iter().flatten() {
+        drop(a.lines);
+        let _ = a.child.wait();
+    }
+}
+
+/// runs of the same pair of digits told by their count
+fn brief(b: &[u8]) -> String {
+    let mut out = String::new();
+    let mut i = 0;
+    while i < b.len() {
+        let pair = &b[i..(i + 2).min(b.len())];
+        let n = b[i..].chunks(2).take_while(|c| *c == pair).count();
+        if n > 12 && pair.iter().all(u8::is_ascii_hexdigit) {
+            out += &format!("{}[{n} times]", String::from_utf8_lossy(pair));
+            i += 2 * n;
+        } else {
+            out += &b[i].escape_ascii().to_string();
+            i += 1;
+        }
+    }
+    if out.len() > 600 {
+        format!("{} ..", &out[..600])
+    } else {
+        out
+    }
+}
+
+/// a request of many parts is larger
+fn size(request: &[u8]) -> usize {
+    request.len() + 64 * request.iter().filter(|c| matches!(c, b',' | b';' | b' ')).count()
+}
+
+/// the request's first word, if it is one of the protocol's
+fn kind_of(request: &[u8]) -> Vec<u8> {
+    let w = word(request);
+    if w == b"backend" || maker::KINDS.iter().any(|k| k.0.as_bytes() == w) {
+        w.to_vec()
+    } else {
+        b"(unknown)".to_vec()
+    }
+}
