@@ -147,7 +147,9 @@ static void agree_cache(void)
         uint32_t held = 0;
         if (mesh_cache_clear(words, size)) fail("a cache is refused");
         for (int turn = 0; turn < 2000; turn++, adds++) {
-            r.type = rand() & 3, r.id = rand() % (size + 2), r.time = rand() & 1, r.relay = 0x0a0b0c0d ^ (rand() & 1) << (rand() & 31);
+            /* records that are nearly the same, so that about half of them are hits */
+            r.type = rand() & 7 ? 0 : rand() & 3, r.id = rand() % (size + 2), r.time = !(rand() & 7);
+            r.relay = rand() & 7 ? 0x0a0b0c0d : 0x0a0b0c0d ^ 1u << (rand() & 31);
             bool there = false;
             for (uint32_t i = 0; i < held; i++) there |= last[i].type == r.type && last[i].id == r.id && last[i].time == r.time && last[i].relay == r.relay;
             if (!there) {
@@ -227,14 +229,14 @@ int main(int count, char **words)
 
     /* a cache of 64 that is full: records that were never added, and the newest and the oldest that are there */
     double fresh, newest, oldest;
-    uint32_t words[195], id = 0;
+    uint32_t held[195], id = 0;
     uint8_t is_new = 0;
-    mesh_cache_clear(words, 64);
-    TIME(fresh, 5000, mesh_cache_add(words, 0, 1, id++, 0x0a0b0c0d, &is_new); id += is_new);
-    id = words[67 + (words[2] + 63) % 64];
-    TIME(newest, 5000, mesh_cache_add(words, 0, 1, id, 0x0a0b0c0d, &is_new); id += is_new);
-    id = words[67 + words[2]];
-    TIME(oldest, 5000, mesh_cache_add(words, 0, 1, id, 0x0a0b0c0d, &is_new); id += is_new);
+    mesh_cache_clear(held, 64);
+    TIME(fresh, 5000, mesh_cache_add(held, 0, 1, id++, 0x0a0b0c0d, &is_new); id += is_new);
+    id = held[67 + (held[2] + 63) % 64];
+    TIME(newest, 5000, mesh_cache_add(held, 0, 1, id, 0x0a0b0c0d, &is_new); id += is_new);
+    id = held[67 + held[2]];
+    TIME(oldest, 5000, mesh_cache_add(held, 0, 1, id, 0x0a0b0c0d, &is_new); id += is_new);
 
     AES_KEY theirs;
     uint8_t many[4096] = {0};
