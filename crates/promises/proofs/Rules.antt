@@ -9,14 +9,14 @@ use lib.ListN.{length, getD, replicate}
 use borrow.Author.Tests.{lt-ltb, le-ltb, eq-eqb, ne-eqb}
 use Rattle.base.specs.Lists.{Bytes}
 use Rattle.base.specs.Blocks.{Block}
-use Rattle.base.specs.Numbers.{hopsNone, hopsMany, notMesh, typeLarge, keyLength, keyDigit, frequencyLength, bodyShort, cacheSize, itemLong, heartbeatLength, outputShort}
+use Rattle.base.specs.Numbers.{hopsNone, hopsMany, notMesh, typeLarge, keyLength, keyDigit, frequencyLarge, frequencyStep, frequencyLength, bodyShort, cacheSize, itemLong, heartbeatLength, outputShort}
 use Rattle.base.specs.Answers.{value, number, bytes, checkedSays}
 use Rattle.wire.specs.Hex.{allHex, unhex, hexText}
 use Rattle.fips197.specs.Aes.{aes}
 use Rattle.aes128.specs.Key.{keyOf, keySays, keyFromSlice, keyFromText, signingKey, encryptionKey}
 use Rattle.aes128.proofs.Laws.{text-back}
 use Rattle.fields.specs.Header.{typeRead, codeOf, headerOf, headerByte, typeSays, headerSays, byteSays}
-use Rattle.fields.specs.Freq.{freqWire, hertzOf, freqRead, freqSays}
+use Rattle.fields.specs.Freq.{halvedOf, stepsOf, freqWire, hertzOf, freqRead, freqSays}
 use Rattle.fields.specs.Signal.{rssiOf, rssiByte, snrOf, snrByte, signalSays}
 use Rattle.fields.specs.Meta.{upOf, upWire, downOf, downWire}
 use Rattle.fields.specs.Path.{pathOf, pathWire}
@@ -39,7 +39,7 @@ use Rattle.items.proofs.Laws.{Turn, turn}
 use Rattle.packets.specs.Read.{meshOf, meshSays}
 use Rattle.trips.specs.Which.{leastFrame, numberOf}
 use Rattle.cache.specs.Cache.{newOf}
-use Rattle.promises.specs.Says.{numberIn}
+use Rattle.promises.specs.Says.{numberIn, stepsSays}
 use Rattle.promises.proofs.Demand2.{mesh-reader}
 
 -- ---- the header byte
@@ -92,6 +92,15 @@ snr-read-then-written b h = ap signalSays (snr-again b h)
 
 pub snr-written-then-read : (x : ℤ) (b : ℕ) → snrByte x ≡ signal.Byte b → snrOf b ≡ x
 snr-written-then-read = snr-back
+
+-- "Then 17 if the value divided by 100 is 2^24 or more, then 18": of a frequency f below 2.4 GHz, and from there up of its half
+pub frequency-too-large : (f : ℕ) → 16777215 < halvedOf f / 100 → stepsSays (stepsOf f) ≡ number frequencyLarge
+unfolding stepsOf
+frequency-too-large f h = simp (lt-ltb 16777215 (halvedOf f / 100) h)
+
+pub frequency-no-step : (f : ℕ) → halvedOf f / 100 ≤ 16777215 → (halvedOf f % 100 ≡ 0 → ⊥) → stepsSays (stepsOf f) ≡ number frequencyStep
+unfolding stepsOf
+frequency-no-step f h e = simp (le-ltb 16777215 (halvedOf f / 100) h, ne-eqb (halvedOf f % 100) 0 e)
 
 -- three bytes of frequency, read and written, are the same bytes; 28: not 3 bytes
 pub frequency-read-then-written : (a b c : ℕ) → a < 256 → b < 256 → c < 256 → freqWire (hertzOf a b c) ≡ bytes (a ∷ b ∷ c ∷ [])

@@ -3,6 +3,8 @@
 use Prim.Native.Nat.{ℕ}
 use Rattle.base.specs.Answers.{Answer, value, number}
 use Rattle.wire.specs.declared.run.Run.{Run}
+use Rattle.fields.specs.declared.freq.StepsRead.{StepsRead}
+use Rattle.fields.specs.declared.freq.StepsRead.the-variants.{Steps, Refused as NoSteps}
 use Rattle.items.specs.declared.item.Item.{Item}
 use Rattle.items.specs.declared.item.ItemRead.{ItemRead}
 use Rattle.items.specs.declared.item.ItemRead.the-variants.{Kept, Skipped, Cut, End, Refused as NoItem}
@@ -24,6 +26,11 @@ use Rattle.packets.specs.declared.mesh.MeshOpened.the-variants as mesh
 abbrev pub numberIn : {A : Type 0} → Answer A → ℕ
 numberIn (value a) = 0
 numberIn (number n) = n
+
+-- a frequency in steps
+abbrev pub stepsSays : StepsRead → Answer ℕ
+stepsSays (Steps n) = value n
+stepsSays (NoSteps n) = number n
 
 -- one item: kept or skipped, and the place of the next; the tail that is cut; or none from the end on
 pub data Found : Type 0 where
