@@ -25,6 +25,16 @@ abbrev pub checkedSays : {A : Type 0} → Checked → A → Answer A
 checkedSays checked.Accepted a = value a
 checkedSays (checked.Refused n) a = number n
 
+-- the number of a refusal, and 0 where there is none
+abbrev pub numberIn : {A : Type 0} → Answer A → ℕ
+numberIn (value a) = 0
+numberIn (number n) = n
+
+-- what a call leaves where it stores what it answers: all as it was when it refuses
+abbrev pub leftBy : {A : Type 0} → {B : Type 0} → (A → B) → B → Answer A → B
+leftBy f old (value a) = f a
+leftBy f old (number n) = old
+
 -- what is to be written, or the first refusal
 pub data Frame : Type 0 where
   bytes : List ℕ → Frame

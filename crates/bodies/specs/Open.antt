@@ -7,7 +7,7 @@ use lib.Dec.{ltb, eqb}
 use lib.ListN.{length}
 use Rattle.base.specs.Pick.{pick}
 use Rattle.base.specs.Numbers.{frameLong, outputShort, openMany, openOne, payloadMost}
-use Rattle.base.specs.Answers.{Frame, bytes, refused, outOf}
+use Rattle.base.specs.Answers.{Frame, bytes, refused, outOf, Answer, value, number}
 use Rattle.wire.specs.Run.{runRefusal, runBytes}
 use Rattle.wire.specs.declared.run.Run.{Run}
 use Rattle.fields.specs.Meta.{unlessRefused}
@@ -78,3 +78,14 @@ decodeOf ev Empty f w = nothingIn
 decodeOf ev (Sealed r) f w = readSealed ev f r
 decodeOf ev (Open h r) f w = tellOpen (openingOf ev (runBytes (heldIn h f w) r) .kept) (runRefusal (length (heldIn h f w)) r)
 decodeOf ev (Items n) f w = tellOpen n 0
+
+-- ---- what an opening says: what there is from now on, and what was in it; or only that it was open before
+
+pub data Told (A : Type 0) : Type 0 where
+  told : A → Opening → Told A
+  wasOpen : Told A
+
+abbrev pub openedSays : Opened → Answer (Told Body)
+openedSays (Now b o) = value (told b o)
+openedSays AlreadyOpen = value wasOpen
+openedSays (Refused n) = number n

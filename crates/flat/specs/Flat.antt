@@ -1,6 +1,7 @@
 -- A packet as one plain struct, and back. Assumes nothing.
 use Prim.Native.Nat.{ℕ}
-use mathlib.Core.Bool.{Bool, false}
+use mathlib.Core.Bool.{Bool, true, false}
+use mathlib.Core.List.{List, [], _∷_}
 use lib.Dec.{eqb}
 use lib.IntN.{pos}
 use Rattle.base.specs.Pick.{pick}
@@ -204,3 +205,18 @@ meshFrom f = kindBy f (typeRead (f .kind))
 
 unfoldable pub packetFrom : Flat → PacketRead
 packetFrom f = pick (eqb (f .kind) 4) (PacketIs (Lora (runFrom f))) (ofMesh (meshFrom f))
+
+-- ---- as numbers, in the order of these lists
+
+abbrev pub bit : Bool → ℕ
+bit true = 1
+bit false = 0
+
+unfoldable pub numbersOf : Flat → List ℕ
+numbersOf f =
+    f .kind ∷ f .«payload_type» ∷ f .«hop_count» ∷ bit (f .«has_mic») ∷ f .mic ∷ f .«relay_id» ∷ f .«uplink_id» ∷ f .dr
+    ∷ f .channel ∷ f .frequency ∷ f .«tx_power» ∷ f .delay ∷ f .timestamp ∷ f .body ∷ f .start ∷ f .len ∷ []
+
+-- where its payload lies
+abbrev pub placed : Flat → List ℕ
+placed f = f .body ∷ f .start ∷ f .len ∷ []

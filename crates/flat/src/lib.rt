@@ -1,6 +1,6 @@
 // A packet as one plain struct of numbers, for callers from C, where no enum can stand: which fields count goes by `kind` and `body`.
 ghost use mathlib.Core.Path.{_≡_};
-ghost use Rattle.flat.specs.Flat.{placeOf, bodyFrom, headOf, ofUplink, ofDownlink, ofStamped, ofLora, flatOfMesh, flatOf, uplinkFrom, downlinkFrom, eventFrom, commandFrom, payloadFrom, meshFrom, packetFrom};
+ghost use Rattle.flat.specs.Flat.{placeOf, bodyFrom, headOf, ofUplink, ofDownlink, ofStamped, ofLora, flatOfMesh, flatOf, uplinkFrom, downlinkFrom, eventFrom, commandFrom, payloadFrom, meshFrom, packetFrom, bit, numbersOf, placed};
 use bodies::Body;
 use bodies::Held;
 use events::CommandPayload;
@@ -244,6 +244,34 @@ fn of_lora(run: Run) -> Flat
     }
 }
 
+// ---- numbers of one width
+pub fn from_bool(x: bool) -> u64
+    ensures { λ r. ⌜ r ≡ bit x ⌝ }
+{
+    if x {
+        return 1;
+    }
+    0
+}
+
+pub fn from_u8(x: u8) -> u64
+    ensures { λ r. ⌜ r ≡ x ⌝ }
+{
+    x as u64
+}
+
+pub fn from_u16(x: u16) -> u64
+    ensures { λ r. ⌜ r ≡ x ⌝ }
+{
+    x as u64
+}
+
+pub fn from_u32(x: u32) -> u64
+    ensures { λ r. ⌜ r ≡ x ⌝ }
+{
+    x as u64
+}
+
 impl Flat {
     pub const LORA: u8 = 4;
 
@@ -275,6 +303,37 @@ impl Flat {
             Packet::Mesh(m) => Flat::of_mesh(m),
             Packet::Lora(run) => of_lora(run),
         }
+    }
+
+    // All that is no signed number, in a fixed order, for callers whose calls pass no structs.
+    pub fn numbers(self) -> [u64; 16]
+        ensures { λ r. ⌜ r ≡ numbersOf self ⌝ }
+    {
+        [
+            from_u8(self.kind),
+            from_u8(self.payload_type),
+            from_u8(self.hop_count),
+            from_bool(self.has_mic),
+            from_u32(self.mic),
+            from_u32(self.relay_id),
+            from_u16(self.uplink_id),
+            from_u8(self.dr),
+            from_u8(self.channel),
+            from_u32(self.frequency),
+            from_u8(self.tx_power),
+            from_u8(self.delay),
+            from_u32(self.timestamp),
+            from_u8(self.body),
+            self.start,
+            self.len,
+        ]
+    }
+
+    // Of what sealing and opening change: body, start and len.
+    pub fn place(self) -> [u64; 3]
+        ensures { λ r. ⌜ r ≡ placed self ⌝ }
+    {
+        [from_u8(self.body), self.start, self.len]
     }
 
     fn uplink(self) -> UplinkPayload

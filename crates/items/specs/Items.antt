@@ -144,3 +144,18 @@ tagUnlessSealed Proprietary t = t
 
 abbrev pub typeOf : Item → ℕ
 typeOf i = tagUnlessSealed (i .kind) (i .tag)
+
+-- ---- what the reader says: an item kept or skipped and the place of the next, the tail that is cut, or none from the end on
+
+pub data Found : Type 0 where
+  kept : Item → ℕ → Found
+  skipped : Item → ℕ → Found
+  cut : Run → Found
+  none : Found
+
+abbrev pub itemSays : ItemRead → Answer Found
+itemSays (Kept i next) = value (kept i next)
+itemSays (Skipped i next) = value (skipped i next)
+itemSays (Cut r) = value (cut r)
+itemSays End = value none
+itemSays (Refused n) = number n

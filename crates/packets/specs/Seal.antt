@@ -2,11 +2,11 @@
 use mathlib.Core.Bool.{true, false}
 use mathlib.Core.List.{List, []}
 use Prim.Native.Nat.{ℕ}
-use Rattle.base.specs.Answers.{Frame, bytes, answerOf}
+use Rattle.base.specs.Answers.{Frame, bytes, answerOf, Answer, value, number}
 use Rattle.items.specs.Items.{nothing}
 use Rattle.items.specs.declared.count.Opening.{Opening}
 use Rattle.bodies.specs.Body.{Lent}
-use Rattle.bodies.specs.Open.{decryptOf, workAfter, decodeOf}
+use Rattle.bodies.specs.Open.{decryptOf, workAfter, decodeOf, Told, told, wasOpen}
 use Rattle.events.specs.Seal.{eventSeal, eventSealed, commandSeal, commandSealed, eventOpened, commandOpened}
 use Rattle.events.specs.declared.stamped.EventRead.{EventRead}
 use Rattle.events.specs.declared.stamped.EventRead.the-variants.{Payload as EventIs, Refused as NoEvent}
@@ -85,3 +85,8 @@ meshDecoded p (Uplink u) f w = asItIs p
 meshDecoded p (Downlink u) f w = asItIs p
 meshDecoded p (Event u) f w = ofEventOpened p (eventOpened u (decodeOf true (u .events) f w))
 meshDecoded p (Command u) f w = ofCommandOpened p (commandOpened u (decodeOf false (u .commands) f w))
+
+abbrev pub meshOpenedSays : MeshOpened → Answer (Told MeshPacket)
+meshOpenedSays (Now p o) = value (told p o)
+meshOpenedSays AlreadyOpen = value wasOpen
+meshOpenedSays (NotOpened n) = number n

@@ -15,7 +15,7 @@ use Rattle.base.specs.Numbers.{outputShort}
 use Rattle.base.specs.Answers.{Answer, value, number, Frame, bytes, refused, answerOf, outOf, writtenSays, checkedOf, checkedSays}
 use Rattle.base.proofs.Answers.{out-length}
 use Rattle.bodies.specs.Body.{Lent}
-use Rattle.bodies.specs.Open.{openedBy, sealWire, decryptOf, workAfter}
+use Rattle.bodies.specs.Open.{openedBy, sealWire, decryptOf, workAfter, Told, openedSays}
 use Rattle.bodies.specs.declared.body.Body.{Body}
 use Rattle.bodies.specs.declared.body.Body.the-variants.{Empty, Sealed, Open, Items}
 use Rattle.bodies.specs.declared.open.Opened.{Opened}
@@ -27,7 +27,7 @@ use Rattle.events.specs.Seal.{eventSeal, eventSealed, commandSeal, commandSeale
 use Rattle.events.specs.declared.stamped.EventPayload.{EventPayload}
 use Rattle.events.specs.declared.stamped.CommandPayload.{CommandPayload}
 use Rattle.packets.specs.Read.{meshSays}
-use Rattle.packets.specs.Seal.{ofEventSealed, ofCommandSealed, sealOf, meshSealed, ofEventOpened, ofCommandOpened, meshDecrypted, meshWork}
+use Rattle.packets.specs.Seal.{ofEventSealed, ofCommandSealed, sealOf, meshSealed, ofEventOpened, ofCommandOpened, meshDecrypted, meshWork, meshOpenedSays}
 use Rattle.packets.specs.declared.mesh.Payload.{Payload}
 use Rattle.packets.specs.declared.mesh.Payload.the-variants as payload
 use Rattle.packets.specs.declared.mesh.MeshPacket.{MeshPacket}
@@ -36,7 +36,6 @@ use Rattle.cache.specs.Cache.{has, countIn, addedOf, addSays}
 use Rattle.cache.specs.declared.record.PayloadCache.{PayloadCache}
 use Rattle.cache.specs.declared.ring.Cache.{Cache}
 use Rattle.hops.specs.Hops.{leaves}
-use Rattle.promises.specs.Says.{Told, openedSays, meshOpenedSays}
 
 never : {A : Type 0} (a : A) (n : ℕ) → value a ≡ number n → ⊥
 never a n e = let z : _≡_ {A = ℕ} 0 1 = cc in omega arith

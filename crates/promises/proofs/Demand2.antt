@@ -11,7 +11,7 @@ use Rattle.base.specs.Pick.{pick}
 use Rattle.base.specs.Lists.{Bytes}
 use Rattle.base.specs.Blocks.{Block}
 use Rattle.base.specs.Numbers.{frameEmpty, frameShort, bodyShort, frameLong}
-use Rattle.base.specs.Answers.{value, number, bytes}
+use Rattle.base.specs.Answers.{value, number, bytes, numberIn}
 use Rattle.wire.specs.Run.{runBytes}
 use Rattle.wire.specs.declared.run.Run.{Run}
 use Rattle.fips197.specs.Aes.{aes}
@@ -52,7 +52,6 @@ use Rattle.cache.specs.declared.record.PayloadCache.{PayloadCache}
 use Rattle.cache.proofs.Laws.{same-is, adds-list, last-added}
 use Rattle.packed.specs.Packed.{clearedWords, packedAnswers}
 use Rattle.packed.proofs.Laws.{AllFit, packed-adds-list}
-use Rattle.promises.specs.Says.{numberIn}
 
 -- ---- reading
 

@@ -11,7 +11,7 @@ use lib.ListN.{length, getD}
 use borrow.Author.Tests.{le-ltb, lt-ltb, ltb-true, ltb-false, eq-eqb, ne-eqb, eqb-true}
 use Rattle.base.specs.Pick.{pick}
 use Rattle.base.specs.Lists.{Bytes}
-use Rattle.base.specs.Answers.{value, number}
+use Rattle.base.specs.Answers.{value, number, numberIn}
 use Rattle.wire.specs.Hex.{nibbleOf, pairOf, allHex, unhex, hexText}
 use Rattle.fields.specs.Header.{headerOf, codeOf}
 use Rattle.fields.specs.declared.header.MHDR.{MHDR}
@@ -33,7 +33,6 @@ use Rattle.dump.specs.Dump.{lastDigits, decimal, meshText, frameText, badHex, l
 use Rattle.dump.proofs.Examples as examples
 use Rattle.dump.proofs.Laws.Decimal.{valueOf, decimal-back}
 use Rattle.dump.proofs.Laws.Text.{text-of, hex-line, line-bad, line-long, line-text-most}
-use Rattle.promises.specs.Says.{numberIn}
 use Rattle.promises.proofs.Demand2.{packetNumber, packet-reader}
 
 -- ---- document 01's example, its four lines and what is printed for each

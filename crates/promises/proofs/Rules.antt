@@ -10,13 +10,13 @@ use borrow.Author.Tests.{lt-ltb, le-ltb, eq-eqb, ne-eqb}
 use Rattle.base.specs.Lists.{Bytes}
 use Rattle.base.specs.Blocks.{Block}
 use Rattle.base.specs.Numbers.{hopsNone, hopsMany, notMesh, typeLarge, keyLength, keyDigit, frequencyLarge, frequencyStep, frequencyLength, bodyShort, cacheSize, itemLong, heartbeatLength, outputShort}
-use Rattle.base.specs.Answers.{value, number, bytes, checkedSays}
+use Rattle.base.specs.Answers.{value, number, bytes, checkedSays, numberIn}
 use Rattle.wire.specs.Hex.{allHex, unhex, hexText}
 use Rattle.fips197.specs.Aes.{aes}
 use Rattle.aes128.specs.Key.{keyOf, keySays, keyFromSlice, keyFromText, signingKey, encryptionKey}
 use Rattle.aes128.proofs.Laws.{text-back}
 use Rattle.fields.specs.Header.{typeRead, codeOf, headerOf, headerByte, typeSays, headerSays, byteSays}
-use Rattle.fields.specs.Freq.{halvedOf, stepsOf, freqWire, hertzOf, freqRead, freqSays}
+use Rattle.fields.specs.Freq.{halvedOf, stepsOf, freqWire, hertzOf, freqRead, freqSays, stepsSays}
 use Rattle.fields.specs.Signal.{rssiOf, rssiByte, snrOf, snrByte, signalSays}
 use Rattle.fields.specs.Meta.{upOf, upWire, downOf, downWire}
 use Rattle.fields.specs.Path.{pathOf, pathWire}
@@ -39,7 +39,6 @@ use Rattle.items.proofs.Laws.{Turn, turn}
 use Rattle.packets.specs.Read.{meshOf, meshSays}
 use Rattle.trips.specs.Which.{leastFrame, numberOf}
 use Rattle.cache.specs.Cache.{newOf}
-use Rattle.promises.specs.Says.{numberIn, stepsSays}
 use Rattle.promises.proofs.Demand2.{mesh-reader}
 
 -- ---- the header byte

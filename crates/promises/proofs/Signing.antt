@@ -8,7 +8,7 @@ use lib.Dec.{ltb, eqb}
 use lib.ListN.{length}
 use Rattle.base.specs.Pick.{pick}
 use Rattle.base.specs.Numbers.{micMissing}
-use Rattle.base.specs.Answers.{value, number, Frame, bytes, refused, frameNumber}
+use Rattle.base.specs.Answers.{value, number, Frame, bytes, refused, frameNumber, numberIn}
 use Rattle.wire.specs.Number.{beBytes}
 use Rattle.bodies.specs.Body.{Lent}
 use Rattle.payloads.specs.Write.{withMic}
@@ -18,7 +18,6 @@ use Rattle.packets.specs.declared.mesh.MeshPacket.{MeshPacket}
 use Rattle.packets.specs.declared.mesh.MeshRead.the-variants.{Mesh}
 use Rattle.mic.specs.declared.Validated.the-variants.{Valid, Invalid}
 use Rattle.mic.specs.Mic.{micOf, fitting, signedOf, carryingMic, signedBy, setMic, comparedBy, validateMic, validSays}
-use Rattle.promises.specs.Says.{numberIn}
 
 -- "The MIC is the first 4 bytes of the CMAC over header byte and body as the writer writes them": what is signed is what is written before
 -- the MIC

@@ -1,0 +1,28 @@
+-- `mesh_c::frame::mesh_read_body` meets its contract. Assumes nothing.
+use mathlib.Core.Path.{ap, _∙_}
+use denote.Ref.{now}
+use Rattle.base.specs.Answers.{numberIn, leftBy}
+use Rattle.packets.specs.Read.{meshSays}
+use Rattle.packets.specs.declared.mesh.MeshRead.{MeshRead}
+use Rattle.mesh_c.specs.Face.{meshNumbers, meshRssi, meshSnr}
+use borrow.Author.Needs.{needs}
+use Rattle.mesh_c.proofs.frame.mesh_read_body.Statement.{statement}
+use Rattle.mesh_c.proofs.frame.mesh_read_body.Tie as tie
+
+returns : tie.Need-returns
+returns c =
+    let a = c .before .before .before .before .before .before .args in
+    let w = c .put-mesh .ensures in
+    let e = c .before .before .before .before .read-kind .ensures in (
+      w .0 ∙ ap (λ (m : MeshRead). numberIn (meshSays m)) e,
+      (
+        w .1 .0 ∙ ap (λ (m : MeshRead). leftBy meshNumbers (now (a .numbers)) (meshSays m)) e,
+        (
+          w .1 .1 .0 ∙ ap (λ (m : MeshRead). leftBy meshRssi (now (a .rssi)) (meshSays m)) e,
+          w .1 .1 .1 ∙ ap (λ (m : MeshRead). leftBy meshSnr (now (a .snr)) (meshSays m)) e,
+        ),
+      ),
+    )
+
+pub mesh-read-body-spec : {M : Type 1} → statement M
+mesh-read-body-spec = tie.close (tie.spec (λ c κs. search needs) (λ c κs. search needs) returns)

@@ -1,0 +1,35 @@
+-- `mesh_c::frame::write_alone` meets its contract. Assumes nothing.
+use mathlib.Core.Path.{sym, ap, _∙_}
+use denote.Ref.{now}
+use Rattle.base.specs.Answers.{answerOf, outOf, refused}
+use Rattle.bodies.specs.Body.{lent}
+use Rattle.payloads.specs.Write.{limitedOf}
+use Rattle.packets.specs.Write.{payloadWire}
+use Rattle.packets.specs.declared.mesh.MeshRead.{MeshRead}
+use Rattle.packets.specs.declared.mesh.MeshPacket.{MeshPacket}
+use Rattle.mesh_c.specs.Face.{ofMesh, flatBody}
+use borrow.Author.Needs.{needs}
+use Rattle.mesh_c.proofs.frame.write_alone.Statement.{statement}
+use Rattle.mesh_c.proofs.frame.write_alone.Tie as tie
+
+returns : tie.Need-returns
+unfolding flatBody answerOf outOf
+returns c =
+    let a = c .before .before .before .before .before .before .before .before .args in
+    let e = sym (c .before .n .given .1) ∙ c .before .before .before .mesh .ensures in (
+      ap (λ (m : MeshRead). answerOf (ofMesh (λ (p : MeshPacket). limitedOf (payloadWire (lent (now (a .frame)) (now (a .work)) (now (a .kinds)) (now (a .spans)) (now (a .ids)) (now (a .rssis)) (now (a .snrs))) (p .payload))) refused m) (now (a .out))) e,
+      ap (λ (m : MeshRead). outOf (ofMesh (λ (p : MeshPacket). limitedOf (payloadWire (lent (now (a .frame)) (now (a .work)) (now (a .kinds)) (now (a .spans)) (now (a .ids)) (now (a .rssis)) (now (a .snrs))) (p .payload))) refused m) (now (a .out))) e,
+    )
+
+returns-2 : tie.Need-returns-2
+unfolding flatBody
+returns-2 c =
+    let a = c .before .before .before .before .before .before .before .before .before .before .before .before .args in
+    let e = sym (c .before .before .before .before .before .p .given .1) ∙ c .before .before .before .before .before .before .before .mesh .ensures in
+    let w = c .before .before .write-payload .ensures in (
+      w .0 ∙ ap (λ (m : MeshRead). answerOf (ofMesh (λ (p : MeshPacket). limitedOf (payloadWire (lent (now (a .frame)) (now (a .work)) (now (a .kinds)) (now (a .spans)) (now (a .ids)) (now (a .rssis)) (now (a .snrs))) (p .payload))) refused m) (now (a .out))) e,
+      w .1 ∙ ap (λ (m : MeshRead). outOf (ofMesh (λ (p : MeshPacket). limitedOf (payloadWire (lent (now (a .frame)) (now (a .work)) (now (a .kinds)) (now (a .spans)) (now (a .ids)) (now (a .rssis)) (now (a .snrs))) (p .payload))) refused m) (now (a .out))) e,
+    )
+
+pub write-alone-spec : {M : Type 1} → statement M
+write-alone-spec = tie.close (tie.spec (λ c κs. search needs) (λ c. search needs) (λ c. search needs) (λ c κs. search needs) returns (λ c. search needs) returns-2)

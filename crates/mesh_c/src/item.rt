@@ -1,0 +1,219 @@
+// Items one at a time, their counts, heartbeats, and the key stream.
+ghost use mathlib.Core.Path.{_≡_};
+ghost use Rattle.base.specs.Answers.{answerOf, outOf, numberIn, leftBy, writtenSays};
+ghost use Rattle.heartbeats.specs.Heartbeat.{beatSays, beatOf, pathSays, entryRead, beatWire};
+ghost use Rattle.composed.specs.Composed.{paths};
+ghost use Rattle.paths.specs.Paths.{pathsIn};
+ghost use Rattle.items.specs.Items.{countsOf, countsSay, decodeOf, itemSays};
+ghost use Rattle.seal.specs.Stream.{sealedOf};
+ghost use Rattle.mesh_c.specs.Face.{asItIs, countList, kindNumber, itemList, foundList, entriesIn, entryRelay, entryRssi, entrySnr};
+use aes128::Aes128Key;
+use base::Written;
+use flat::from_bool;
+use flat::from_u8;
+use heartbeats::HeartbeatPayload;
+use heartbeats::HeartbeatRead;
+use heartbeats::PathRead;
+use items::Command;
+use items::Event;
+use items::Item;
+use items::ItemKind;
+use items::ItemRead;
+use items::Opening;
+use items::OpeningRead;
+use paths::write_path;
+use seal::encrypt_events_commands;
+
+// A payload sealed, or a sealed one opened: 0, 5 or 21.
+#[no_mangle]
+pub extern "C" fn mesh_stream(
+    key: &[u8; 16],
+    is_command: bool,
+    relay_id: u32,
+    timestamp: u32,
+    payload: &[u8],
+    out: &mut [u8],
+) -> u8
+    ensures answer { λ r. ⌜ r ≡ numberIn (writtenSays (answerOf (sealedOf (now (key .entry)) «is_command» «relay_id» timestamp (now (payload .entry))) (now (out .entry)))) ⌝ }
+    ensures out { λ _. ⌜ now (out .exit) ≡ outOf (sealedOf (now (key .entry)) «is_command» «relay_id» timestamp (now (payload .entry))) (now (out .entry)) ⌝ }
+{
+    match encrypt_events_commands(
+        Aes128Key::from_bytes(*key),
+        is_command,
+        relay_id,
+        timestamp,
+        payload,
+        out,
+    ) {
+        Written::Bytes(_) => 0,
+        Written::Refused(n) => n,
+    }
+}
+
+// ---- items
+
+// Kept items, skipped items, the bytes of kept items, of skipped items and of the cut tail, and 1 where nothing is skipped or cut.
+pub fn counts_of(o: Opening) -> [u64; 6]
+    ensures { λ r. ⌜ r ≡ countList o ⌝ }
+{
+    [
+        o.kept as u64,
+        o.skipped as u64,
+        o.kept_bytes as u64,
+        o.skipped_bytes as u64,
+        o.cut_bytes as u64,
+        from_bool(o.clean),
+    ]
+}
+
+fn counted(is_event: bool, payload: &[u8]) -> OpeningRead
+    ensures { λ r. ⌜ r ≡ countsOf «is_event» (now (payload .entry)) ⌝ }
+{
+    if is_event {
+        return Event::count(payload);
+    }
+    Command::count(payload)
+}
+
+// What a clear payload holds: 0, or 5.
+#[no_mangle]
+pub extern "C" fn mesh_count(is_event: bool, payload: &[u8], counts: &mut [u64; 6]) -> u8
+    ensures answer { λ r. ⌜ r ≡ numberIn (countsSay (countsOf «is_event» (now (payload .entry)))) ⌝ }
+    ensures counts { λ _. ⌜ now (counts .exit) ≡ leftBy countList (now (counts .entry)) (countsSay (countsOf «is_event» (now (payload .entry)))) ⌝ }
+{
+    match counted(is_event, payload) {
+        OpeningRead::Refused(n) => n,
+        OpeningRead::Opening(o) => {
+            *counts = counts_of(o);
+            0
+        }
+    }
+}
+
+fn decoded(is_event: bool, payload: &[u8], at: usize) -> ItemRead
+    ensures { λ r. ⌜ r ≡ decodeOf «is_event» (now (payload .entry)) at ⌝ }
+{
+    if is_event {
+        return Event::decode(payload, at);
+    }
+    Command::decode(payload, at)
+}
+
+fn kind_number(kind: ItemKind) -> u64
+    ensures { λ r. ⌜ r ≡ kindNumber kind ⌝ }
+{
+    match kind {
+        ItemKind::Encrypted => 0,
+        ItemKind::Heartbeat => 1,
+        ItemKind::Proprietary => 2,
+    }
+}
+
+fn item_numbers(what: u64, item: Item, next: usize) -> [u64; 6]
+    ensures { λ r. ⌜ r ≡ itemList what item next ⌝ }
+{
+    let kind = item.kind;
+    let value = item.value;
+    [
+        what,
+        kind_number(kind),
+        from_u8(item.tag),
+        value.start as u64,
+        value.len as u64,
+        next as u64,
+    ]
+}
+
+// What stands at a place of a clear payload: 0, or 5. In `item`: 0 the end, 1 an item, 2 a skipped heartbeat, 3 a cut tail; then its kind (1 a
+// heartbeat, 2 any other), its tag, place and length of its value, and the place behind it.
+#[no_mangle]
+pub extern "C" fn mesh_item(is_event: bool, payload: &[u8], at: u64, item: &mut [u64; 6]) -> u8
+    ensures answer { λ r. ⌜ r ≡ numberIn (itemSays (decodeOf «is_event» (now (payload .entry)) at)) ⌝ }
+    ensures item { λ _. ⌜ now (item .exit) ≡ leftBy foundList (now (item .entry)) (itemSays (decodeOf «is_event» (now (payload .entry)) at)) ⌝ }
+{
+    match decoded(is_event, payload, at as usize) {
+        ItemRead::Refused(n) => n,
+        ItemRead::End => {
+            *item = [0, 0, 0, 0, 0, 0];
+            0
+        }
+        ItemRead::Cut(tail) => {
+            *item = [3, 0, 0, tail.start as u64, tail.len as u64, 0];
+            0
+        }
+        ItemRead::Kept { item: it, next } => {
+            *item = item_numbers(1, it, next);
+            0
+        }
+        ItemRead::Skipped { item: it, next } => {
+            *item = item_numbers(2, it, next);
+            0
+        }
+    }
+}
+
+// ---- heartbeats
+
+// How many path entries a heartbeat's value holds, where a list of so many places is to take them: 0, or 19, 20, 21.
+#[no_mangle]
+pub extern "C" fn mesh_heartbeat(value: &[u8], places: u64, entries: &mut u64) -> u8
+    ensures answer { λ r. ⌜ r ≡ numberIn (beatSays (beatOf (now (value .entry)) places)) ⌝ }
+    ensures entries { λ _. ⌜ now (entries .exit) ≡ leftBy entriesIn (now (entries .entry)) (beatSays (beatOf (now (value .entry)) places)) ⌝ }
+{
+    match HeartbeatPayload::check(value, places as usize) {
+        HeartbeatRead::Refused(n) => n,
+        HeartbeatRead::Heartbeat(h) => {
+            *entries = h.entries as u64;
+            0
+        }
+    }
+}
+
+// One of them: 0, or 45.
+#[no_mangle]
+pub extern "C" fn mesh_heartbeat_entry(
+    value: &[u8],
+    i: u64,
+    relay_id: &mut u32,
+    rssi: &mut i16,
+    snr: &mut i8,
+) -> u8
+    ensures answer { λ r. ⌜ r ≡ numberIn (pathSays (entryRead (now (value .entry)) i)) ⌝ }
+    ensures relay_id { λ _. ⌜ now («relay_id» .exit) ≡ leftBy entryRelay (now («relay_id» .entry)) (pathSays (entryRead (now (value .entry)) i)) ⌝ }
+    ensures rssi { λ _. ⌜ now (rssi .exit) ≡ leftBy entryRssi (now (rssi .entry)) (pathSays (entryRead (now (value .entry)) i)) ⌝ }
+    ensures snr { λ _. ⌜ now (snr .exit) ≡ leftBy entrySnr (now (snr .entry)) (pathSays (entryRead (now (value .entry)) i)) ⌝ }
+{
+    match HeartbeatPayload::entry(value, i as usize) {
+        PathRead::Refused(n) => n,
+        PathRead::Entry(p) => {
+            *relay_id = p.relay_id;
+            let strength = p.rssi;
+            let ratio = p.snr;
+            *rssi = strength;
+            *snr = ratio;
+            0
+        }
+    }
+}
+
+// A value of entries in three lists, the shortest of which counts: 0 with its length, or 10 to 13 of the first bad entry, 19, 21.
+#[no_mangle]
+pub extern "C" fn mesh_heartbeat_write(
+    ids: &[u32],
+    rssis: &[i16],
+    snrs: &[i8],
+    out: &mut [u8],
+    length: &mut u64,
+) -> u8
+    ensures answer { λ r. ⌜ r ≡ numberIn (writtenSays (answerOf (beatWire (pathsIn (paths (now (ids .entry)) (now (rssis .entry)) (now (snrs .entry))))) (now (out .entry)))) ⌝ }
+    ensures out { λ _. ⌜ now (out .exit) ≡ outOf (beatWire (pathsIn (paths (now (ids .entry)) (now (rssis .entry)) (now (snrs .entry))))) (now (out .entry)) ⌝ }
+    ensures length { λ _. ⌜ now (length .exit) ≡ leftBy asItIs (now (length .entry)) (writtenSays (answerOf (beatWire (pathsIn (paths (now (ids .entry)) (now (rssis .entry)) (now (snrs .entry))))) (now (out .entry)))) ⌝ }
+{
+    match write_path(ids, rssis, snrs, out) {
+        Written::Refused(n) => n,
+        Written::Bytes(n) => {
+            *length = n as u64;
+            0
+        }
+    }
+}
