@@ -1,5 +1,6 @@
-/* Speed and stack of the cipher, the MIC and the stream, beside OpenSSL's, and of whole frames, in one process. bench/run builds and runs it twice: with the processor's AES
-   instructions and with them switched off for OpenSSL; the port uses none, so its figures should be the same in both. */
+/* Speed and stack of the cipher, the MIC and the stream, beside OpenSSL's, and of whole frames, in one process. bench/run builds and
+   runs it twice: with the processor's AES instructions and with them switched off for OpenSSL; the port uses none, so its figures should
+   be the same in both. */
 #define _GNU_SOURCE
 #define OPENSSL_SUPPRESS_DEPRECATED
 #include <openssl/aes.h>
@@ -7,28 +8,16 @@
 #include <openssl/crypto.h>
 #include <openssl/evp.h>
 #include <pthread.h>
-#include <stdbool.h>
-#include <stdint.h>
 #include <stdio.h>
 #include <stdlib.h>
 #include <string.h>
 #include <time.h>
 
-void mesh_encrypt_block(const uint8_t *key, uint8_t *block);
-void mesh_prepare(const uint8_t *key, uint32_t *cipher);
-void mesh_encipher(const uint32_t *cipher, uint8_t *block);
-void mesh_cmac(const uint8_t *key, const uint8_t *message, size_t length, uint8_t *tag);
-void mesh_mac(const uint32_t *cipher, const uint8_t *message, size_t length, uint8_t *tag);
-uint8_t mesh_stream(const uint8_t *key, bool is_command, uint32_t relay_id, uint32_t timestamp, const uint8_t *payload, size_t length, uint8_t *out, size_t room);
-uint8_t mesh_validate(const uint8_t *key, const uint8_t *frame, size_t length, uint8_t *valid);
-uint8_t mesh_set_hop_count(const uint8_t *key, uint8_t *frame, size_t length, uint8_t hop_count);
-uint8_t mesh_cache_clear(uint32_t *words, uint32_t size);
-uint8_t mesh_cache_add(uint32_t *words, uint8_t type, uint16_t uplink_id, uint32_t timestamp, uint32_t relay_id, uint8_t *is_new);
-uint8_t mesh_count(bool is_event, const uint8_t *payload, size_t length, uint64_t *counts);
+#include "mesh.h"
 
 static uint8_t key[16], message[255], block[16], tag[16], sealed[255], work[255];
-static uint64_t counts[5];
-static uint32_t ready[1024]; /* more than any prepared cipher takes */
+static uint64_t counts[6];
+static uint32_t ready[MESH_CIPHER_WORDS];
 
 static double now(void)
 {
@@ -96,18 +85,30 @@ static void agree(void)
         for (int i = 0; i < 4; i++) first[6 + i] = relay >> (24 - 8 * i), first[10 + i] = time >> (24 - 8 * i);
         EVP_EncryptInit_ex(ctr, EVP_aes_128_ctr(), NULL, key, first);
         EVP_EncryptUpdate(ctr, theirs_sealed, &written, message, (int)n);
-        if (mesh_stream(key, command, relay, time, message, n, sealed, 255) || memcmp(sealed, theirs_sealed, n)) fail("a sealed payload differs from OpenSSL's CTR");
-        if (mesh_stream(key, command, relay, time, sealed, n, work, 255) || memcmp(work, message, n)) fail("an opened payload differs from the clear one");
+        if (mesh_stream(key, command, relay, time, message, n, sealed, 255) || memcmp(sealed, theirs_sealed, n))
+            fail("a sealed payload differs from OpenSSL's CTR");
+        if (mesh_stream(key, command, relay, time, sealed, n, work, 255) || memcmp(work, message, n))
+            fail("an opened payload differs from the clear one");
     }
     EVP_CIPHER_CTX_free(ctr);
     printf("20000 payloads of 0 to 255 bytes, sealed and opened: equal to OpenSSL's CTR\n");
+}
+
+/* A frame from its bytes on: read, and its MIC validated. */
+static uint8_t validated(const uint8_t *frame, size_t n, bool *valid)
+{
+    mesh_packet packet;
+    mesh_lent lent = mesh_lent_frame(frame, n);
+    uint8_t refused = mesh_packet_read(&packet, frame, n);
+    return refused ? refused : mesh_packet_validate(&packet, key, &lent, valid);
 }
 
 /* Frames of every type: what the hop edit leaves is the frame with the count, an uplink's two bits and OpenSSL's MIC over them set. */
 static void agree_frames(void)
 {
     static const size_t least[4] = {14, 15, 13, 13};
-    uint8_t frame[255], theirs[255], valid;
+    uint8_t frame[255], theirs[255];
+    bool valid;
     size_t length;
     CMAC_CTX *context = CMAC_CTX_new();
     for (int round = 0; round < 20000; round++) {
@@ -124,11 +125,12 @@ static void agree_frames(void)
         CMAC_Final(context, tag, &length);
         memcpy(theirs + n - 4, tag, 4);
         if (mesh_set_hop_count(key, frame, n, hops) || memcmp(frame, theirs, n)) fail("a hop edit differs");
-        if (mesh_validate(key, frame, n, &valid) || !valid) fail("an edited frame is not valid");
+        if (validated(frame, n, &valid) || !valid) fail("an edited frame is not valid");
         frame[n - 1 - rand() % 4] ^= 1 << (rand() & 7);
-        if (mesh_validate(key, frame, n, &valid) || valid) fail("a frame with another MIC is valid");
+        if (validated(frame, n, &valid) || valid) fail("a frame with another MIC is valid");
         memcpy(theirs, frame, n);
-        if (mesh_set_hop_count(key, frame, n, 0) != 6 || mesh_set_hop_count(key, frame, n, 9) != 7 || memcmp(frame, theirs, n)) fail("a refused edit changes the frame");
+        if (mesh_set_hop_count(key, frame, n, 0) != 6 || mesh_set_hop_count(key, frame, n, 9) != 7 || memcmp(frame, theirs, n))
+            fail("a refused edit changes the frame");
         if (mesh_set_hop_count(key, frame, least[type] - 1, hops) != 4 || memcmp(frame, theirs, n)) fail("a short frame is edited");
     }
     CMAC_CTX_free(context);
@@ -151,13 +153,15 @@ static void agree_cache(void)
             r.type = rand() & 7 ? 0 : rand() & 3, r.id = rand() % (size + 2), r.time = !(rand() & 7);
             r.relay = rand() & 7 ? 0x0a0b0c0d : 0x0a0b0c0d ^ 1u << (rand() & 31);
             bool there = false;
-            for (uint32_t i = 0; i < held; i++) there |= last[i].type == r.type && last[i].id == r.id && last[i].time == r.time && last[i].relay == r.relay;
+            for (uint32_t i = 0; i < held; i++)
+                there |= last[i].type == r.type && last[i].id == r.id && last[i].time == r.time && last[i].relay == r.relay;
             if (!there) {
                 if (held == size) memmove(last, last + 1, --held * sizeof r);
                 last[held++] = r;
             }
             hits += there;
-            if (mesh_cache_add(words, r.type, r.id, r.time, r.relay, &is_new) || is_new == there) fail("the cache differs from the list of the last records");
+            if (mesh_cache_add(words, r.type, r.id, r.time, r.relay, &is_new) || is_new == there)
+                fail("the cache differs from the list of the last records");
         }
     }
     printf("%ld adds to caches of 1 to 64, %ld of them hits: as a list of the last records has them\n", adds, hits);
@@ -215,17 +219,19 @@ int main(int count, char **words)
     double seal100, open100;
     for (int i = 0; i < 100; i++) message[i] = i % 10 == 0 ? 1 : i % 10 == 1 ? 8 : i;
     TIME(seal100, 5000, mesh_stream(key, false, 0x0a0b0c0d, 60, message, 100, sealed, 255); key[1] = sealed[3]);
-    TIME(open100, 5000, mesh_stream(key, false, 0x0a0b0c0d, 60, sealed, 100, work, 255); mesh_count(true, work, 100, counts); key[1] = work[3] + counts[0]);
+    TIME(open100, 5000, mesh_stream(key, false, 0x0a0b0c0d, 60, sealed, 100, work, 255);
+         mesh_count(true, work, 100, counts); key[1] = work[3] + counts[0]);
 
     /* an uplink; each turn edits what the last one left, and validates it as it stands */
     double edit14, edit255, valid14, valid255;
-    uint8_t frame[255], valid = 0;
+    uint8_t frame[255];
+    bool valid = false;
     memcpy(frame, message, 255);
     frame[0] = 0xe0;
     TIME(edit14, 5000, mesh_set_hop_count(key, frame, 14, 1 + (frame[13] & 7)); key[1] = frame[12]);
-    TIME(valid14, 5000, mesh_validate(key, frame, 14, &valid); frame[13] += valid; key[1]++);
+    TIME(valid14, 5000, validated(frame, 14, &valid); frame[13] += valid; key[1]++);
     TIME(edit255, 2000, mesh_set_hop_count(key, frame, 255, 1 + (frame[254] & 7)); key[1] = frame[253]);
-    TIME(valid255, 2000, mesh_validate(key, frame, 255, &valid); frame[254] += valid; key[1]++);
+    TIME(valid255, 2000, validated(frame, 255, &valid); frame[254] += valid; key[1]++);
 
     /* a cache of 64 that is full: records that were never added, and the newest and the oldest that are there */
     double fresh, newest, oldest;
@@ -255,12 +261,17 @@ int main(int count, char **words)
     uint8_t first[16] = {1, [15] = 1};
     EVP_CIPHER_CTX *ctr = EVP_CIPHER_CTX_new();
     EVP_EncryptInit_ex(ctr, EVP_aes_128_ctr(), NULL, key, first);
-    TIME(ctr100, 2000, EVP_EncryptInit_ex(ctr, NULL, NULL, key, first); EVP_EncryptUpdate(ctr, sealed, &written, message, 100); key[1] = sealed[3]);
+    TIME(ctr100, 2000, EVP_EncryptInit_ex(ctr, NULL, NULL, key, first);
+         EVP_EncryptUpdate(ctr, sealed, &written, message, 100); key[1] = sealed[3]);
     CMAC_CTX *context = CMAC_CTX_new();
     const EVP_CIPHER *cbc = EVP_aes_128_cbc();
     CMAC_Init(context, key, 16, cbc, NULL);
-#define SET(n) CMAC_Init(context, key, 16, NULL, NULL); CMAC_Update(context, message, n); CMAC_Final(context, tag, &length); message[0] = tag[0]; key[1] = tag[1]
-#define SAME(n) CMAC_Init(context, NULL, 0, NULL, NULL); CMAC_Update(context, message, n); CMAC_Final(context, tag, &length); message[0] = tag[0]
+#define SET(n)                                                                                  \
+    CMAC_Init(context, key, 16, NULL, NULL); CMAC_Update(context, message, n);                  \
+    CMAC_Final(context, tag, &length); message[0] = tag[0]; key[1] = tag[1]
+#define SAME(n)                                                                                 \
+    CMAC_Init(context, NULL, 0, NULL, NULL); CMAC_Update(context, message, n);                  \
+    CMAC_Final(context, tag, &length); message[0] = tag[0]
     TIME(set14, 2000, SET(14));
     TIME(set255, 1000, SET(255));
     TIME(same14, 2000, SAME(14));
@@ -279,8 +290,8 @@ int main(int count, char **words)
     printf("%-44s %9.1f\n", "a block, key set", once);
     printf("%-44s %9.1f\n", "hop edit of an uplink of 14 bytes", edit14);
     printf("%-44s %9.1f\n", "hop edit of an uplink of 255 bytes", edit255);
-    printf("%-44s %9.1f\n", "an uplink of 14 bytes validated", valid14);
-    printf("%-44s %9.1f\n", "an uplink of 255 bytes validated", valid255);
+    printf("%-44s %9.1f\n", "an uplink of 14 bytes read and validated", valid14);
+    printf("%-44s %9.1f\n", "an uplink of 255 bytes read and validated", valid255);
     printf("%-44s %9.1f\n", "a new record, in a full cache of 64", fresh);
     printf("%-44s %9.1f\n", "a hit there, the newest record", newest);
     printf("%-44s %9.1f\n", "a hit there, the oldest record", oldest);

@@ -92,7 +92,8 @@ struct Options {
     no_raw: bool,
     smallest: bool,
     file: Option<String>,
-    seed: u64,
+    spoiled: bool,
+    seeds: Vec<u64>,
     count: u64,
 }
 
@@ -105,11 +106,13 @@ fn options() -> Options {
         no_raw: false,
         smallest: false,
         file: None,
-        seed: 1,
+        spoiled: false,
+        seeds: vec![1],
         count: 100_000,
     };
     let mut args = std::env::args().skip(1);
     let mut numbers = Vec::new();
+    let mut many = None;
     let usage = || -> ! {
         eprintln!("usage: compare/run [OPTION..] [SEED] [COUNT]; the options stand at the head of compare/run");
         exit(2)
@@ -127,16 +130,29 @@ fn options() -> Options {
             }
             "--smallest" => o.smallest = true,
             "--file" => o.file = Some(value()),
+            "--spoiled" => o.spoiled = true,
+            "--seeds" => many = Some(seeds(&value()).unwrap_or_else(|| usage())),
             n => numbers.push(n.parse().unwrap_or_else(|_| usage())),
         }
     }
-    match numbers[..] {
-        [] => {}
-        [seed] => o.seed = seed,
-        [seed, count] => (o.seed, o.count) = (seed, count),
+    match (many, &numbers[..]) {
+        (None, []) => {}
+        (None, [seed]) => o.seeds = vec![*seed],
+        (None, [seed, count]) => (o.seeds, o.count) = (vec![*seed], *count),
+        (Some(list), []) => o.seeds = list,
+        (Some(list), [count]) => (o.seeds, o.count) = (list, *count),
         _ => usage(),
     }
+    // what is spoiled is compared between the two alone: the rules of docs/DIFFERENCES.md look at well-formed requests
+    o.no_raw |= o.spoiled;
     o
+}
+
+/// A..B, both of them among the seeds
+fn seeds(text: &str) -> Option<Vec<u64>> {
+    let (a, b) = text.split_once("..")?;
+    let list: Vec<u64> = (a.parse().ok()?..=b.parse().ok()?).collect();
+    (!list.is_empty()).then_some(list)
 }
 
 /// a difference in full, each request with its two answers
@@ -166,6 +182,8 @@ struct Run {
     kinds: Tally,
     sevens: (u64, Vec<u8>),
     ruled: Vec<(u64, Vec<u8>)>,
+    start: Instant,
+    done: u64,
 }
 
 impl Run {
@@ -185,13 +203,19 @@ impl Run {
     }
 
     fn found(&mut self, request: &[u8], left: &[u8], right: &[u8]) -> ! {
+        let (done, seconds) = (self.done, self.start.elapsed().as_secs_f64());
         let bad = word(left) == b"bad" || word(right) == b"bad";
         let small = shrink::smallest(request, &mut |c| {
             let (l, r) = self.asked(c);
             let malformed = word(&l) == b"bad" || word(&r) == b"bad";
             (bad || !malformed) && (self.differ(c, &l, &r) || panicked(&l) || panicked(&r))
         });
-        println!("\na difference\n  request {}\n  left    {}\n  right   {}", brief(request), brief(left), brief(right));
+        println!(
+            "\na difference, within {done} requests, {seconds:.2} s\n  request {}\n  left    {}\n  right   {}",
+            brief(request),
+            brief(left),
+            brief(right)
+        );
         let (l, r) = self.asked(&small);
         if small != request {
             println!("smaller\n  request {}\n  left    {}\n  right   {}", brief(&small), brief(&l), brief(&r));
@@ -236,8 +260,11 @@ fn main() {
         kinds: BTreeMap::new(),
         sevens: (0, Vec::new()),
         ruled: vec![(0, Vec::new()); RULES.len()],
+        start: Instant::now(),
+        done: 0,
     };
-    let mut maker = maker::Maker::new(o.seed);
+    let mut maker = maker::Maker::new(o.seeds[0]);
+    let all = o.count * o.seeds.len() as u64;
     let mut file = o.file.as_ref().map(|f| {
         BufReader::new(std::fs::File::open(f).unwrap_or_else(|e| {
             eprintln!("run: {f}: {e}");
@@ -245,9 +272,8 @@ fn main() {
         }))
     });
     let tty = std::io::stderr().is_terminal();
-    let start = Instant::now();
-    let mut told = start;
-    let (mut made, mut done) = (0u64, 0u64);
+    let mut told = run.start;
+    let mut made = 0u64;
     let (mut l, mut r, mut w) = (Vec::new(), Vec::new(), Vec::new());
     let mut waiting: Option<Arc<Vec<u8>>> = None;
     loop {
@@ -258,8 +284,21 @@ fn main() {
         while n < BATCH && lines.len() < 1 << 20 {
             let from = lines.len();
             match &mut file {
-                None if made == o.count => break,
-                None => maker.next(&mut lines),
+                None if made == all => break,
+                None => {
+                    if made > 0 && made % o.count == 0 {
+                        maker = maker::Maker::new(o.seeds[(made / o.count) as usize]);
+                    }
+                    if o.spoiled {
+                        maker.next_spoiled(&mut lines);
+                        // the oracle's alone
+                        if lines[from..].starts_with(b"raw ") {
+                            lines[from] = b'R';
+                        }
+                    } else {
+                        maker.next(&mut lines);
+                    }
+                }
                 Some(f) => {
                     if f.read_until(b'\n', &mut lines).unwrap_or(0) == 0 {
                         break;
@@ -296,7 +335,7 @@ fn main() {
             run.left.answer(request, &mut l);
             run.right.answer(request, &mut r);
             *run.kinds.entry(kind_of(request)).or_default().entry(tallied(&l)).or_default() += 1;
-            done += 1;
+            run.done += 1;
             let odd = !same(request, &l, &r) || panicked(&l) || panicked(&r);
             let mut unlike = false;
             if let Some(a) = &mut run.raw {
@@ -358,13 +397,18 @@ fn main() {
         }
         if tty && told.elapsed() > Duration::from_millis(300) {
             told = Instant::now();
-            let all = if o.file.is_some() { String::new() } else { format!(" of {}", o.count) };
-            eprint!("\r{done}{all} requests, {:.0} a second ", done as f64 / start.elapsed().as_secs_f64());
+            let of = if o.file.is_some() { String::new() } else { format!(" of {all}") };
+            eprint!("\r{}{of} requests, {:.0} a second ", run.done, run.done as f64 / run.start.elapsed().as_secs_f64());
         }
     }
-    let seconds = start.elapsed().as_secs_f64();
+    let (done, seconds) = (run.done, run.start.elapsed().as_secs_f64());
     if tty {
         eprintln!();
+    }
+    match (&o.file, &o.seeds[..]) {
+        (Some(f), _) => println!("requests of {f}"),
+        (None, [seed]) => println!("seed {seed}"),
+        (None, list) => println!("seeds {} to {}, {} requests each", list[0], list[list.len() - 1], o.count),
     }
     let mut numbers: BTreeMap<(u32, String), u64> = BTreeMap::new();
     println!("kind           requests        ok   refused       bad");

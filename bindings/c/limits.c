@@ -1,0 +1,1137 @@
+/* Every exported function of mesh.h at its limits, with lengths and places that do not fit. The answers are document 01's numbers, and what a
+ * refused call was lent is as it was. Each thing that is lent lies in an allocation of its own and of exactly its size, so that valgrind, or
+ * AddressSanitizer where the library is built with it, sees a byte read or written beside it. Prints `N checks passed`, or what failed. */
+#include <inttypes.h>
+#include <stdio.h>
+#include <stdlib.h>
+#include <string.h>
+
+#include "mesh.h"
+
+#define BEFORE 0xa5
+
+static unsigned long checks;
+
+#define CHECK(truth)                                                                                                                         \
+    do {                                                                                                                                     \
+        checks++;                                                                                                                            \
+        if (!(truth)) {                                                                                                                      \
+            fprintf(stderr, "%s:%d: %s\n", __FILE__, __LINE__, #truth);                                                                      \
+            exit(1);                                                                                                                         \
+        }                                                                                                                                    \
+    } while (0)
+
+#define COUNT(list) (sizeof(list) / sizeof *(list))
+
+/* ---- what is lent */
+
+static void *room(size_t n) {
+    void *b = malloc(n);
+    if (!b) {
+        fprintf(stderr, "no memory, or none of no bytes\n");
+        exit(2);
+    }
+    memset(b, BEFORE, n);
+    return b;
+}
+
+static void *copy(const void *from, size_t n) {
+    void *b = room(n);
+    if (n) memcpy(b, from, n);
+    return b;
+}
+
+static bool untouched(const void *b, size_t n) {
+    for (size_t i = 0; i < n; i++)
+        if (((const uint8_t *)b)[i] != BEFORE) return false;
+    return true;
+}
+
+/* Gives back what was lent to be read, which no call changes. */
+static void back(void *lent, const void *from, size_t n) {
+    CHECK(n == 0 || memcmp(lent, from, n) == 0);
+    free(lent);
+}
+
+/* Bytes with this first one. The caller frees them. */
+static uint8_t *bytes(uint8_t first, size_t n) {
+    uint8_t *b = room(n);
+    for (size_t i = 0; i < n; i++) b[i] = (uint8_t)(i * 7 + 1);
+    if (n) b[0] = first;
+    return b;
+}
+
+static const uint8_t KEY[16] = {0, 1, 2, 3, 4, 5, 6, 7, 8, 9, 10, 11, 12, 13, 14, 15};
+
+static mesh_packet good(uint8_t kind) {
+    mesh_packet p;
+    memset(&p, 0, sizeof p);
+    p.kind = kind;
+    p.payload_type = kind == MESH_LORA ? 0 : kind;
+    p.hop_count = 1;
+    p.has_mic = true;
+    p.mic = 0x01020304;
+    p.relay_id = 0x0a0b0c0d;
+    p.uplink_id = 291;
+    p.dr = 5;
+    p.rssi = -80;
+    p.snr = 7;
+    p.channel = 2;
+    p.frequency = 868100000;
+    p.tx_power = 3;
+    p.delay = 1;
+    p.timestamp = 60;
+    return p;
+}
+
+static mesh_packet at(uint8_t kind, uint8_t body, uint64_t start, uint64_t len) {
+    mesh_packet p = good(kind);
+    p.body = body;
+    p.start = start;
+    p.len = len;
+    return p;
+}
+
+/* Places and lengths outside any slice. A run of no bytes is empty wherever it stands. */
+static const uint64_t FAR[][2] = {{0, UINT64_MAX}, {UINT64_MAX, 1}, {UINT64_MAX, UINT64_MAX}, {1, UINT64_MAX}, {1ull << 63, 1ull << 63}};
+
+static mesh_lent lend(const mesh_lent *l) {
+    mesh_lent c = *l;
+    c.frame = copy(l->frame, l->frame_len);
+    c.work = copy(l->work, l->work_len);
+    c.kinds = copy(l->kinds, l->kinds_len * sizeof *l->kinds);
+    c.spans = copy(l->spans, l->spans_len * sizeof *l->spans);
+    c.ids = copy(l->ids, l->ids_len * sizeof *l->ids);
+    c.rssis = copy(l->rssis, l->rssis_len * sizeof *l->rssis);
+    c.snrs = copy(l->snrs, l->snrs_len);
+    return c;
+}
+
+static void take_back(const mesh_lent *c, const mesh_lent *l) {
+    back((void *)c->frame, l->frame, l->frame_len);
+    back((void *)c->work, l->work, l->work_len);
+    back((void *)c->kinds, l->kinds, l->kinds_len * sizeof *l->kinds);
+    back((void *)c->spans, l->spans, l->spans_len * sizeof *l->spans);
+    back((void *)c->ids, l->ids, l->ids_len * sizeof *l->ids);
+    back((void *)c->rssis, l->rssis, l->rssis_len * sizeof *l->rssis);
+    back((void *)c->snrs, l->snrs, l->snrs_len);
+}
+
+static const mesh_lent NONE;
+
+/* ---- the calls; each gives the number */
+
+static uint64_t numbers_read[16];
+static int16_t rssi_read;
+static int8_t snr_read;
+
+enum reader { ANY, MESH, BODY };
+
+static uint8_t do_read(enum reader reader, uint8_t kind, const uint8_t *b, size_t n) {
+    uint8_t *frame = copy(b, n);
+    uint64_t *numbers = room(16 * sizeof *numbers);
+    int16_t *rssi = room(sizeof *rssi);
+    int8_t *snr = room(sizeof *snr);
+    uint8_t r = reader == ANY    ? mesh_read(frame, n, numbers, rssi, snr)
+                : reader == MESH ? mesh_read_mesh(frame, n, numbers, rssi, snr)
+                                 : mesh_read_body(kind, frame, n, numbers, rssi, snr);
+    if (r) {
+        CHECK(untouched(numbers, 16 * sizeof *numbers) && untouched(rssi, sizeof *rssi) && untouched(snr, sizeof *snr));
+    } else {
+        memcpy(numbers_read, numbers, sizeof numbers_read);
+        rssi_read = *rssi;
+        snr_read = *snr;
+    }
+    back(frame, b, n);
+    free(numbers);
+    free(rssi);
+    free(snr);
+    return r;
+}
+
+static uint8_t written[9000];
+static uint64_t written_length;
+
+/* After a call that writes n bytes or is refused. */
+static void wrote(uint8_t r, uint8_t *out, size_t out_len, uint64_t *length) {
+    if (r) {
+        CHECK(untouched(out, out_len) && untouched(length, sizeof *length));
+    } else {
+        CHECK(*length <= out_len && *length <= sizeof written);
+        CHECK(untouched(out + *length, out_len - *length));
+        memcpy(written, out, *length);
+        written_length = *length;
+    }
+    free(out);
+    free(length);
+}
+
+static uint8_t do_write(bool body, const mesh_packet *p, const mesh_lent *l, size_t out_len) {
+    mesh_lent c = lend(l);
+    uint8_t *out = room(out_len);
+    uint64_t *length = room(sizeof *length);
+    uint8_t r = body ? mesh_write_body(MESH_PACKET_OF(p), MESH_LENT_OF(&c), out, out_len, length)
+                     : mesh_write(MESH_PACKET_OF(p), MESH_LENT_OF(&c), out, out_len, length);
+    wrote(r, out, out_len, length);
+    take_back(&c, l);
+    return r;
+}
+
+static uint32_t mic_made;
+
+static uint8_t do_sign(const mesh_packet *p, const mesh_lent *l) {
+    mesh_lent c = lend(l);
+    uint8_t *key = copy(KEY, 16);
+    uint32_t *made = room(sizeof *made);
+    uint8_t r = mesh_sign(MESH_PACKET_OF(p), key, MESH_LENT_OF(&c), made);
+    if (r) CHECK(untouched(made, sizeof *made));
+    mic_made = *made;
+    back(key, KEY, 16);
+    free(made);
+    take_back(&c, l);
+    return r;
+}
+
+static uint8_t was_valid;
+
+static uint8_t do_validate(const mesh_packet *p, const mesh_lent *l) {
+    mesh_lent c = lend(l);
+    uint8_t *key = copy(KEY, 16);
+    uint8_t *valid = room(1);
+    uint8_t r = mesh_validate(MESH_PACKET_OF(p), key, MESH_LENT_OF(&c), valid);
+    if (r) CHECK(*valid == BEFORE);
+    was_valid = *valid;
+    back(key, KEY, 16);
+    free(valid);
+    take_back(&c, l);
+    return r;
+}
+
+static uint64_t place_after[3], counts_after[6];
+
+static uint8_t do_seal(const mesh_packet *p, const mesh_lent *l, size_t out_len) {
+    mesh_lent c = lend(l);
+    uint8_t *key = copy(KEY, 16);
+    uint8_t *out = room(out_len);
+    uint64_t *place = room(sizeof place_after);
+    uint8_t r = mesh_seal(MESH_PACKET_OF(p), key, MESH_LENT_OF(&c), out, out_len, place);
+    if (r) {
+        CHECK(untouched(place, sizeof place_after) && untouched(out, out_len));
+    } else {
+        memcpy(place_after, place, sizeof place_after);
+        if (place[0] == MESH_SEALED) {
+            CHECK(place[1] == 0 && place[2] <= out_len && untouched(out + place[2], out_len - place[2]));
+            memcpy(written, out, place[2]);
+        } else {
+            CHECK(untouched(out, out_len));
+        }
+    }
+    back(key, KEY, 16);
+    free(out);
+    free(place);
+    take_back(&c, l);
+    return r;
+}
+
+static uint8_t do_decrypt(const mesh_packet *p, const uint8_t *b, size_t n, const uint8_t *held, size_t work_len) {
+    uint8_t *frame = copy(b, n), *key = copy(KEY, 16);
+    uint8_t *work = held ? copy(held, work_len) : room(work_len);
+    uint64_t *counts = room(sizeof counts_after), *place = room(sizeof place_after);
+    uint8_t r = mesh_decrypt(MESH_PACKET_OF(p), key, frame, n, work, work_len, counts, place);
+    if (r) {
+        CHECK(untouched(counts, sizeof counts_after) && untouched(place, sizeof place_after));
+        CHECK(held ? memcmp(work, held, work_len) == 0 : untouched(work, work_len));
+    } else {
+        memcpy(counts_after, counts, sizeof counts_after);
+        memcpy(place_after, place, sizeof place_after);
+        if (place[0] == MESH_OPEN_IN_WORK) {
+            CHECK(place[1] == 0 && place[2] <= work_len && (held || untouched(work + place[2], work_len - place[2])));
+            memcpy(written, work, place[2]);
+        }
+    }
+    back(frame, b, n);
+    back(key, KEY, 16);
+    free(work);
+    free(counts);
+    free(place);
+    return r;
+}
+
+static uint8_t do_decode(const mesh_packet *p, const uint8_t *b, size_t n, const uint8_t *w, size_t w_len) {
+    uint8_t *frame = copy(b, n), *work = copy(w, w_len);
+    uint64_t *counts = room(sizeof counts_after), *place = room(sizeof place_after);
+    uint8_t r = mesh_decode(MESH_PACKET_OF(p), frame, n, work, w_len, counts, place);
+    if (r) {
+        CHECK(untouched(counts, sizeof counts_after) && untouched(place, sizeof place_after));
+    } else {
+        memcpy(counts_after, counts, sizeof counts_after);
+        memcpy(place_after, place, sizeof place_after);
+    }
+    back(frame, b, n);
+    back(work, w, w_len);
+    free(counts);
+    free(place);
+    return r;
+}
+
+static uint8_t do_hops(uint8_t *b, size_t n, uint8_t hop_count) {
+    uint8_t *frame = copy(b, n), *key = copy(KEY, 16);
+    uint8_t r = mesh_set_hop_count(key, frame, n, hop_count);
+    if (r)
+        CHECK(n == 0 || memcmp(frame, b, n) == 0);
+    else
+        memcpy(b, frame, n);
+    back(key, KEY, 16);
+    free(frame);
+    return r;
+}
+
+static uint64_t item_found[6];
+
+static uint8_t do_item(bool is_event, const uint8_t *b, size_t n, uint64_t place) {
+    uint8_t *payload = copy(b, n);
+    uint64_t *item = room(sizeof item_found);
+    uint8_t r = mesh_item(is_event, payload, n, place, item);
+    if (r)
+        CHECK(untouched(item, sizeof item_found));
+    else
+        memcpy(item_found, item, sizeof item_found);
+    back(payload, b, n);
+    free(item);
+    return r;
+}
+
+static bool found(uint64_t what, uint64_t kind, uint64_t tag, uint64_t start, uint64_t len, uint64_t next) {
+    const uint64_t item[6] = {what, kind, tag, start, len, next};
+    return memcmp(item, item_found, sizeof item) == 0;
+}
+
+static uint8_t do_count(bool is_event, const uint8_t *b, size_t n) {
+    uint8_t *payload = copy(b, n);
+    uint64_t *counts = room(sizeof counts_after);
+    uint8_t r = mesh_count(is_event, payload, n, counts);
+    if (r)
+        CHECK(untouched(counts, sizeof counts_after));
+    else
+        memcpy(counts_after, counts, sizeof counts_after);
+    back(payload, b, n);
+    free(counts);
+    return r;
+}
+
+static bool counted(uint64_t kept, uint64_t skipped, uint64_t kept_bytes, uint64_t skipped_bytes, uint64_t cut_bytes, uint64_t clean) {
+    const uint64_t counts[6] = {kept, skipped, kept_bytes, skipped_bytes, cut_bytes, clean};
+    return memcmp(counts, counts_after, sizeof counts) == 0;
+}
+
+static uint8_t do_stream(bool is_command, const uint8_t *b, size_t n, size_t out_len) {
+    uint8_t *payload = copy(b, n), *key = copy(KEY, 16), *out = room(out_len);
+    uint64_t *length = room(sizeof *length);
+    uint8_t r = mesh_stream(key, is_command, 0x0a0b0c0d, 60, payload, n, out, out_len);
+    if (r == 0) *length = n;
+    wrote(r, out, out_len, length);
+    back(payload, b, n);
+    back(key, KEY, 16);
+    return r;
+}
+
+/* ---- reading */
+
+static void reading(void) {
+    static const uint8_t firsts[] = {0x40, 0xe0, 0xe8, 0xf0, 0xf8};
+    static const size_t least[] = {0, 14, 15, 13, 13}, start[] = {0, 10, 11, 9, 9};
+    for (size_t i = 0; i < COUNT(firsts); i++) {
+        uint8_t *b = bytes(firsts[i], 8193);
+        CHECK(do_read(ANY, 0, b, 0) == 1 && do_read(MESH, 0, b, 0) == 1);
+        CHECK(do_read(ANY, 0, b, 8193) == 5 && do_read(MESH, 0, b, 8193) == 5);
+        CHECK(do_read(ANY, 0, b, 8192) == 0 && do_read(MESH, 0, b, 8192) == (i ? 0 : 3));
+        for (size_t n = 1; n < 5; n++) CHECK(do_read(ANY, 0, b, n) == (i ? 2 : 0) && do_read(MESH, 0, b, n) == 2);
+        if (i == 0) {
+            CHECK(numbers_read[0] == MESH_LORA && numbers_read[14] == 0 && numbers_read[15] == 4);
+        } else {
+            for (size_t n = 5; n < least[i]; n++) CHECK(do_read(ANY, 0, b, n) == 4 && do_read(MESH, 0, b, n) == 4);
+            CHECK(do_read(MESH, 0, b, least[i]) == 0 && numbers_read[0] == i - 1 && numbers_read[2] == 1 && numbers_read[15] == 0);
+            CHECK(do_read(ANY, 0, b, 8192) == 0 && numbers_read[14] == start[i] && numbers_read[15] == 8192 - least[i]);
+            const uint8_t kind = (uint8_t)(i - 1);
+            for (size_t n = 0; n < least[i] - 5; n++) CHECK(do_read(BODY, kind, b, n) == 4);
+            CHECK(do_read(BODY, kind, b, least[i] - 5) == 0 && do_read(BODY, kind, b, 8187) == 0);
+            CHECK(numbers_read[2] == 0 && numbers_read[3] == 0 && numbers_read[15] == 8192 - least[i]);
+            CHECK(do_read(BODY, kind, b, 8188) == 5);
+        }
+        for (unsigned kind = 4; kind < 256; kind++) CHECK(do_read(BODY, (uint8_t)kind, b, kind % 2 ? 0 : 8188) == 29);
+        free(b);
+    }
+}
+
+/* ---- writing */
+
+/* What all calls that lay a packet out answer of one with this fault, with and without the faults that come before it. */
+static void fault(uint8_t number, mesh_packet p, const mesh_lent *l) {
+    CHECK(do_write(false, &p, l, 0) == number && do_write(true, &p, l, 0) == number);
+    CHECK(do_sign(&p, l) == number && do_validate(&p, l) == number);
+    p.has_mic = false;
+    CHECK(do_write(false, &p, l, 0) == (number == 5 ? 27 : number) && do_sign(&p, l) == number && do_validate(&p, l) == 27);
+    p.has_mic = true;
+    p.hop_count = 0;
+    CHECK(do_write(false, &p, l, 0) == 6 && do_write(true, &p, l, 0) == number && do_sign(&p, l) == 6 && do_validate(&p, l) == 6);
+    p.hop_count = 9;
+    CHECK(do_write(false, &p, l, 0) == 7 && do_write(true, &p, l, 0) == number && do_sign(&p, l) == 7 && do_validate(&p, l) == 7);
+    p.payload_type = 4;
+    CHECK(do_write(false, &p, l, 0) == 29 && do_write(true, &p, l, 0) == 29 && do_sign(&p, l) == 29 && do_validate(&p, l) == 29);
+    p.payload_type = 0;
+    p.kind = 5;
+    CHECK(do_write(false, &p, l, 0) == 29 && do_write(true, &p, l, 0) == 29 && do_sign(&p, l) == 29 && do_validate(&p, l) == 29);
+}
+
+static void writing(void) {
+    const uint8_t three[3] = {1, 2, 3};
+    const mesh_lent l = mesh_lent_frame(three, 3);
+    mesh_packet p;
+#define FAULT(number, kind, change)                                                                                                          \
+    do {                                                                                                                                     \
+        p = good(kind);                                                                                                                      \
+        change;                                                                                                                              \
+        fault(number, p, &l);                                                                                                                \
+    } while (0)
+    FAULT(8, MESH_UPLINK, (p.uplink_id = 4096, p.dr = 16));
+    FAULT(9, MESH_UPLINK, (p.dr = 16, p.rssi = 1));
+    FAULT(10, MESH_UPLINK, (p.rssi = 1, p.snr = -33));
+    FAULT(10, MESH_UPLINK, p.rssi = INT16_MAX);
+    FAULT(11, MESH_UPLINK, (p.rssi = -256, p.snr = -33));
+    FAULT(11, MESH_UPLINK, p.rssi = INT16_MIN);
+    FAULT(12, MESH_UPLINK, p.snr = -33);
+    FAULT(12, MESH_UPLINK, p.snr = INT8_MIN);
+    FAULT(13, MESH_UPLINK, p.snr = 32);
+    FAULT(13, MESH_UPLINK, p.snr = INT8_MAX);
+    FAULT(8, MESH_DOWNLINK, (p.uplink_id = UINT16_MAX, p.dr = 16));
+    FAULT(9, MESH_DOWNLINK, (p.dr = UINT8_MAX, p.delay = 0));
+    FAULT(14, MESH_DOWNLINK, (p.delay = 0, p.tx_power = 16));
+    FAULT(15, MESH_DOWNLINK, (p.delay = 17, p.tx_power = 16));
+    FAULT(16, MESH_DOWNLINK, (p.delay = 17, p.frequency = 1));
+    FAULT(17, MESH_DOWNLINK, p.frequency = 1677721650);
+    FAULT(17, MESH_DOWNLINK, p.frequency = UINT32_MAX);
+    FAULT(18, MESH_DOWNLINK, p.frequency = 1);
+    for (uint8_t kind = 0; kind < 4; kind++) {
+        for (size_t i = 0; i < COUNT(FAR); i++) fault(45, at(kind, MESH_SEALED, FAR[i][0], FAR[i][1]), &l);
+        fault(45, at(kind, MESH_SEALED, 0, 4), &l);
+        fault(45, at(kind, MESH_SEALED, 3, 1), &l);
+        fault(45, at(kind, MESH_SEALED, 4, 1), &l);
+        fault(45, at(kind, MESH_SEALED, 0, 1), &NONE);
+        p = at(kind, MESH_SEALED, UINT64_MAX, 0);
+        CHECK(do_write(false, &p, &NONE, 15) == 0 && written_length == (kind == 0 ? 14u : kind == 1 ? 15u : 13u));
+        CHECK(do_write(false, &p, &NONE, written_length - 1) == 21);
+        for (uint8_t hops = 1; hops <= 8; hops++) {
+            p.hop_count = hops;
+            CHECK(do_write(false, &p, &l, 20) == 0 && written[0] == (0xe0 | kind << 3 | (hops - 1)));
+        }
+        /* 8,192 bytes and one more. */
+        uint8_t *b = bytes(9, 8200);
+        const mesh_lent big = mesh_lent_frame(b, 8200);
+        const uint64_t most = 8192 - (kind == 0 ? 14u : kind == 1 ? 15u : 13u);
+        fault(5, at(kind, MESH_SEALED, 1, most + 1), &big);
+        p = at(kind, MESH_SEALED, 1, most);
+        CHECK(do_write(false, &p, &big, 8191) == 21 && do_write(true, &p, &big, 8186) == 21);
+        CHECK(do_write(false, &p, &big, 8192) == 0 && written_length == 8192);
+        CHECK(memcmp(written + 8188 - most, b + 1, most) == 0 && memcmp(written + 8188, "\1\2\3\4", 4) == 0);
+        CHECK(do_write(true, &p, &big, 8200) == 0 && written_length == 8187);
+        CHECK(do_sign(&p, &big) == 0);
+        p.mic = mic_made;
+        CHECK(do_validate(&p, &big) == 0 && was_valid == 1);
+        p.mic ^= 1;
+        CHECK(do_validate(&p, &big) == 0 && was_valid == 0);
+        free(b);
+    }
+    /* LoRa frames are written, and nothing else is done with them. */
+    for (size_t i = 0; i < COUNT(FAR); i++) {
+        p = at(MESH_LORA, 0, FAR[i][0], FAR[i][1]);
+        CHECK(do_write(false, &p, &l, 9) == 45);
+    }
+    p = at(MESH_LORA, 0, 0, 3);
+    CHECK(do_write(false, &p, &l, 2) == 21 && do_write(false, &p, &l, 3) == 0 && written_length == 3);
+    CHECK(do_write(true, &p, &l, 9) == 29 && do_sign(&p, &l) == 29 && do_validate(&p, &l) == 29);
+    p.len = 0;
+    CHECK(do_write(false, &p, &NONE, 0) == 0 && written_length == 0);
+    uint8_t *b = bytes(0x40, 8193);
+    const mesh_lent big = mesh_lent_frame(b, 8193);
+    p = at(MESH_LORA, 0, 0, 8193);
+    CHECK(do_write(false, &p, &big, 9000) == 5);
+    p.len = 8192;
+    CHECK(do_write(false, &p, &big, 8191) == 21 && do_write(false, &p, &big, 8192) == 0 && written_length == 8192);
+    free(b);
+}
+
+static uint8_t value[300];
+static uint32_t ids[50];
+static int16_t rssis[50];
+static int8_t snrs[50];
+
+/* The number that every call gives of these items; 0 with the payload in written. */
+static uint8_t compose(uint8_t kind, const uint8_t (*kinds)[2], size_t kinds_len, const uint32_t (*spans)[2], size_t spans_len, uint64_t count) {
+    const mesh_lent l = {NULL, 0, value, 300, kinds, kinds_len, spans, spans_len, ids, 50, rssis, 50, snrs, 50};
+    mesh_packet p = at(kind, MESH_ITEMS, UINT64_MAX, count);
+    const uint8_t r = do_write(false, &p, &l, 8192);
+    const uint64_t length = written_length;
+    CHECK(do_sign(&p, &l) == r && do_validate(&p, &l) == r && do_seal(&p, &l, 8192) == r && do_write(true, &p, &l, 8187) == r);
+    CHECK(r || (place_after[2] == length - 13 && written_length == length - 5));
+    if (r == 0) {
+        CHECK(length == 13 || do_seal(&p, &l, length - 14) == 21);
+        CHECK(do_seal(&p, &l, length - 13) == 0 && do_write(true, &p, &l, length - 6) == 21);
+    }
+    p.body = 255;
+    CHECK(do_write(false, &p, &l, 8192) == r);
+    return r;
+}
+
+static uint8_t compose_one(uint8_t kind, uint8_t is_path, uint8_t tag, uint32_t place, uint32_t len) {
+    const uint8_t kinds[1][2] = {{is_path, tag}};
+    const uint32_t spans[1][2] = {{place, len}};
+    return compose(kind, kinds, 1, spans, 1, 1);
+}
+
+static void composing(void) {
+    for (size_t i = 0; i < 300; i++) value[i] = (uint8_t)i;
+    for (size_t i = 0; i < 50; i++) {
+        ids[i] = (uint32_t)i;
+        rssis[i] = -1;
+        snrs[i] = -1;
+    }
+    const uint8_t kinds[32][2] = {{0, 1}, {0, 1}};
+    uint32_t spans[32][2] = {{0, 256}, {301, 1}};
+    static const uint64_t counts[] = {1, 2, UINT64_MAX};
+    for (size_t i = 0; i < COUNT(counts); i++) {
+        CHECK(compose(MESH_EVENT, kinds, 0, spans, 0, counts[i]) == 45);
+        CHECK(compose(MESH_EVENT, kinds, 2, spans, 0, counts[i]) == 45);
+        CHECK(compose(MESH_COMMAND, kinds, 0, spans, 2, counts[i]) == 45);
+    }
+    CHECK(compose(MESH_EVENT, kinds, 2, spans, 2, 0) == 0 && written_length == 13);
+    CHECK(compose(MESH_EVENT, kinds, 2, spans, 2, 2) == 45 && compose(MESH_EVENT, kinds, 2, spans, 2, 1) == 19);
+    static const uint32_t outside[][2] = {{301, 1}, {300, 1}, {0, 301}, {UINT32_MAX, 1}, {1, UINT32_MAX}, {UINT32_MAX, UINT32_MAX}};
+    for (size_t i = 0; i < COUNT(outside); i++)
+        for (uint8_t is_path = 0; is_path < 2; is_path++)
+            for (uint8_t kind = MESH_EVENT; kind <= MESH_COMMAND; kind++)
+                CHECK(compose_one(kind, is_path, 1, outside[i][0], outside[i][1]) == 45);
+    for (uint8_t kind = MESH_EVENT; kind <= MESH_COMMAND; kind++) {
+        CHECK(compose_one(kind, 0, 1, 0, 256) == 19);
+        CHECK(compose_one(kind, 0, 1, 45, 255) == 0 && written_length == 270 && memcmp(written + 11, value + 45, 255) == 0);
+        CHECK(compose_one(kind, 0, 1, 300, 0) == 0 && written_length == 15);
+        CHECK(compose_one(kind, 0, 1, UINT32_MAX, 0) == 0 && written_length == 15);
+        CHECK(compose_one(kind, 0, 0, 0, 5) == (kind == MESH_EVENT ? 20 : 0));
+        CHECK(compose_one(kind, 0, 0, 0, 6) == 0);
+    }
+    CHECK(compose_one(MESH_EVENT, 1, 9, 0, 43) == 19 && compose_one(MESH_EVENT, 1, 9, 9, 42) == 45);
+    CHECK(compose_one(MESH_EVENT, 1, 9, 8, 42) == 0 && written_length == 267 && memcmp(written + 9, "\0\374\0\0\0\10\1\77", 8) == 0);
+    CHECK(compose_one(MESH_EVENT, 255, 9, 50, 0) == 0 && written_length == 15);
+
+    /* The three lists of a path reach as far as the shortest. */
+    const uint8_t path[1][2] = {{1, 0}};
+    const uint32_t two[1][2] = {{0, 2}}, one[1][2] = {{0, 1}};
+    for (size_t i = 0; i < 3; i++) {
+        mesh_lent l = {NULL, 0, NULL, 0, path, 1, two, 1, ids, i == 0 ? 1 : 9, rssis, i == 1 ? 1 : 9, snrs, i == 2 ? 1 : 9};
+        mesh_packet p = at(MESH_EVENT, MESH_ITEMS, 0, 1);
+        CHECK(do_write(false, &p, &l, 99) == 45);
+        l.spans = one;
+        CHECK(do_write(false, &p, &l, 99) == 0 && written_length == 21);
+    }
+    static const int16_t bad_rssi[] = {1, -256, 0, 0};
+    static const int8_t bad_snr[] = {32, 32, -33, 32};
+    for (uint8_t i = 0; i < 4; i++) {
+        rssis[49] = bad_rssi[i];
+        snrs[49] = bad_snr[i];
+        CHECK(compose_one(MESH_EVENT, 1, 0, 0, 50) == 10 + i && compose_one(MESH_EVENT, 1, 0, 49, 1) == 10 + i);
+        CHECK(compose_one(MESH_EVENT, 1, 0, 0, 49) == 19);
+    }
+
+    /* 31 items of 257 bytes and one of 212 are 8,179. */
+    for (size_t i = 0; i < 32; i++) {
+        spans[i][0] = 0;
+        spans[i][1] = i < 31 ? 255 : 210;
+    }
+    CHECK(compose(MESH_COMMAND, kinds, 32, spans, 32, 32) == 0 && written_length == 8192);
+    spans[31][1] = 211;
+    CHECK(compose(MESH_COMMAND, kinds, 32, spans, 32, 32) == 5);
+    CHECK(compose(MESH_COMMAND, kinds, 32, spans, 31, 32) == 45);
+}
+
+/* Frame, work and key are parts of one allocation that overlap. */
+static void shared(void) {
+    uint8_t *b = room(40);
+    for (size_t i = 0; i < 40; i++) b[i] = (uint8_t)i;
+    const uint8_t kinds[2][2] = {{0, 1}, {0, 2}};
+    const uint32_t spans[2][2] = {{0, 3}, {1, 3}};
+    const mesh_lent l = {b + 4, 26, b + 10, 30, kinds, 2, spans, 2, NULL, 0, NULL, 0, NULL, 0};
+    mesh_packet p = at(MESH_EVENT, MESH_ITEMS, 0, 2);
+    uint8_t out[23], sealed[10], apart[10];
+    uint64_t length, place[3];
+    uint32_t mic, other;
+    CHECK(mesh_packet_write(&p, &l, out, sizeof out, &length) == 0 && memcmp(out + 9, "\1\3\12\13\14\2\3\13\14\15", 10) == 0);
+    CHECK(mesh_sign(MESH_PACKET_OF(&p), b + 8, MESH_LENT_OF(&l), &mic) == 0);
+    CHECK(mesh_seal(MESH_PACKET_OF(&p), b + 8, MESH_LENT_OF(&l), sealed, 10, place) == 0);
+    uint8_t *key = copy(b + 8, 16);
+    CHECK(mesh_sign(MESH_PACKET_OF(&p), key, MESH_LENT_OF(&l), &other) == 0 && mic == other);
+    CHECK(mesh_seal(MESH_PACKET_OF(&p), key, MESH_LENT_OF(&l), apart, 10, place) == 0 && memcmp(sealed, apart, 10) == 0);
+    uint8_t tag[16], again[16];
+    mesh_cmac(b + 8, b, 40, tag);
+    mesh_cmac(key, b, 40, again);
+    CHECK(memcmp(tag, again, 16) == 0);
+    uint64_t counts[6];
+    p = at(MESH_EVENT, MESH_SEALED, 2, 5);
+    CHECK(mesh_decode(MESH_PACKET_OF(&p), b + 4, 26, b + 10, 30, counts, place) == 0 && counts[4] == 5);
+    free(key);
+    free(b);
+}
+
+/* ---- the hop edit, sealing and opening */
+
+static void hops(void) {
+    static const uint8_t firsts[] = {0xe0, 0xe8, 0xf0, 0xf8};
+    static const size_t least[] = {14, 15, 13, 13};
+    uint8_t *b = bytes(0xe0, 8193);
+    CHECK(do_hops(b, 8193, 0) == 5 && do_hops(b, 0, 0) == 1 && do_hops(b, 4, 0) == 2 && do_hops(b, 13, 0) == 4);
+    b[0] = 0x40;
+    CHECK(do_hops(b, 14, 0) == 3);
+    for (size_t i = 0; i < 4; i++) {
+        const size_t lengths[] = {least[i], 100, 8192};
+        for (size_t k = 0; k < 3; k++) {
+            b[0] = firsts[i];
+            CHECK(do_hops(b, lengths[k], 0) == 6 && do_hops(b, lengths[k], 9) == 7 && do_hops(b, lengths[k], 255) == 7);
+            for (uint8_t hop = 1; hop <= 8; hop++) {
+                CHECK(do_hops(b, lengths[k], hop) == 0 && b[0] == (firsts[i] | (hop - 1)));
+                mesh_packet p;
+                const mesh_lent l = mesh_lent_frame(b, lengths[k]);
+                CHECK(mesh_packet_read_mesh(&p, b, lengths[k]) == 0 && do_validate(&p, &l) == 0 && was_valid == 1);
+            }
+        }
+    }
+    free(b);
+}
+
+static void sealing(void) {
+    uint8_t *b = bytes(9, 8200);
+    uint8_t sealed[8179];
+    const mesh_lent l = {b, 8200, b, 8200, NULL, 0, NULL, 0, NULL, 0, NULL, 0, NULL, 0};
+    mesh_packet p;
+    for (uint8_t kind = MESH_EVENT; kind <= MESH_COMMAND; kind++) {
+        for (size_t i = 0; i < COUNT(FAR) + 3; i++) {
+            static const uint64_t near[][2] = {{8200, 1}, {8201, 1}, {0, 8201}};
+            const uint64_t *far = i < COUNT(FAR) ? FAR[i] : near[i - COUNT(FAR)];
+            p = at(kind, MESH_SEALED, far[0], far[1]);
+            CHECK(do_seal(&p, &l, 0) == 45 && do_decrypt(&p, b, 8200, NULL, 0) == 45 && do_decode(&p, b, 8200, b, 8200) == 45);
+            for (p.body = MESH_OPEN_IN_FRAME; p.body <= MESH_OPEN_IN_WORK; p.body++)
+                CHECK(do_seal(&p, &l, 0) == 45 && do_write(false, &p, &l, 0) == 45 && do_sign(&p, &l) == 45);
+            p.payload_type = 4;
+            CHECK(do_seal(&p, &l, 0) == 29 && do_decrypt(&p, b, 8200, NULL, 0) == 29 && do_decode(&p, b, 8200, b, 8200) == 29);
+        }
+        p = at(kind, MESH_SEALED, 1, 8180);
+        CHECK(do_seal(&p, &l, 9000) == 5 && do_decrypt(&p, b, 8200, NULL, 9000) == 5 && do_decode(&p, b, 8200, b, 8200) == 5);
+        p.len = 8179;
+        p.hop_count = 0;
+        p.has_mic = false;
+        CHECK(do_seal(&p, &l, 8178) == 21 && do_decrypt(&p, b, 8200, NULL, 8178) == 21);
+        CHECK(do_decode(&p, b, 8200, b, 0) == 0 && place_after[0] == MESH_OPEN_IN_FRAME && place_after[1] == 1);
+        uint64_t counts[6];
+        memcpy(counts, counts_after, sizeof counts);
+        CHECK(do_seal(&p, &l, 8179) == 0 && place_after[0] == MESH_SEALED && place_after[2] == 8179);
+        memcpy(sealed, written, sizeof sealed);
+        mesh_packet q = at(kind, MESH_SEALED, 0, 8179);
+        CHECK(do_decrypt(&q, sealed, 8179, NULL, 8179) == 0 && place_after[0] == MESH_OPEN_IN_WORK);
+        CHECK(memcmp(written, b + 1, 8179) == 0 && memcmp(counts, counts_after, sizeof counts) == 0);
+        CHECK(do_decrypt(&q, sealed, 8179, NULL, 8190) == 0 && do_count(kind == MESH_EVENT, b + 1, 8179) == 0);
+        CHECK(memcmp(counts, counts_after, sizeof counts) == 0);
+        /* One byte of everything. */
+        p = at(kind, MESH_SEALED, 0, 1);
+        CHECK(do_decrypt(&p, b, 1, NULL, 0) == 21 && do_decrypt(&p, b, 1, NULL, 1) == 0 && do_decrypt(&p, b, 0, NULL, 1) == 45);
+    }
+    /* Open already. */
+    static const uint8_t items[] = {1, 0, 2, 0, 3};
+    for (size_t n = 0; n <= sizeof items; n++) {
+        const uint8_t number = n < 2 ? 0 : n < 4 ? 23 : 22;
+        p = at(MESH_EVENT, MESH_OPEN_IN_FRAME, 0, n);
+        CHECK(do_decrypt(&p, items, n, NULL, 9) == number && do_decode(&p, items, n, NULL, 0) == (number ? 255 : 0));
+        p.body = MESH_OPEN_IN_WORK;
+        CHECK(do_decrypt(&p, NULL, 0, items, n) == number && do_decode(&p, NULL, 0, items, n) == (number ? 255 : 0));
+        p = at(MESH_COMMAND, MESH_ITEMS, 0, n / 2);
+        CHECK(do_decrypt(&p, NULL, 0, NULL, 0) == number && do_decode(&p, NULL, 0, NULL, 0) == (number ? 255 : 0));
+    }
+    p = at(MESH_COMMAND, MESH_ITEMS, 0, UINT64_MAX);
+    CHECK(do_decrypt(&p, NULL, 0, NULL, 0) == 22 && do_decode(&p, NULL, 0, NULL, 0) == 255);
+    /* Nothing to do, in no room at all. */
+    for (uint8_t kind = 0; kind < 4; kind++) {
+        p = good(kind);
+        CHECK(do_seal(&p, &NONE, 0) == 0 && place_after[0] == 0 && place_after[2] == 0);
+        CHECK(do_decrypt(&p, NULL, 0, NULL, 0) == 0 && counted(0, 0, 0, 0, 0, 1) && place_after[2] == 0);
+        CHECK(do_decode(&p, NULL, 0, NULL, 0) == 0 && counted(0, 0, 0, 0, 0, 1) && place_after[2] == 0);
+    }
+    for (unsigned kind = 4; kind < 256; kind++) {
+        p = good((uint8_t)kind);
+        p.payload_type = 0;
+        CHECK(do_seal(&p, &NONE, 0) == 29 && do_decrypt(&p, NULL, 0, NULL, 0) == 29 && do_decode(&p, NULL, 0, NULL, 0) == 29);
+    }
+    free(b);
+}
+
+/* ---- items, the stream and heartbeats */
+
+static void items(void) {
+    uint8_t ones[8180];
+    memset(ones, 1, sizeof ones);
+    CHECK(do_item(true, ones, 8180, 0) == 5 && do_item(false, ones, 8180, UINT64_MAX) == 5 && do_count(true, ones, 8180) == 5);
+    CHECK(do_count(false, ones, 8179) == 0 && counted(2726, 0, 8178, 0, 1, 0));
+    CHECK(do_item(true, ones, 8179, 0) == 0 && found(MESH_KEPT, 2, 1, 2, 1, 3));
+    CHECK(do_item(true, ones, 8179, 8178) == 0 && found(MESH_CUT, 0, 0, 8178, 1, 0));
+    static const uint64_t far[] = {8179, 8180, UINT64_MAX, UINT64_MAX - 1, 1ull << 63};
+    for (size_t i = 0; i < COUNT(far); i++) {
+        CHECK(do_item(true, ones, 8179, far[i]) == 0 && found(MESH_END, 0, 0, 0, 0, 0));
+        CHECK(do_item(false, NULL, 0, far[i]) == 0 && found(MESH_END, 0, 0, 0, 0, 0));
+    }
+    CHECK(do_count(true, NULL, 0) == 0 && counted(0, 0, 0, 0, 0, 1));
+    static const uint8_t six[] = {0, 6, 1, 2, 3, 4, 5, 6}, five[] = {0, 5, 1, 2, 3, 4, 5};
+    CHECK(do_item(true, six, 8, 0) == 0 && found(MESH_KEPT, 1, 0, 2, 6, 8));
+    CHECK(do_item(true, five, 7, 0) == 0 && found(MESH_SKIPPED, 1, 0, 2, 5, 7));
+    CHECK(do_item(false, five, 7, 0) == 0 && found(MESH_KEPT, 2, 0, 2, 5, 7));
+    for (size_t n = 1; n < 8; n++) CHECK(do_item(true, six, n, 0) == 0 && found(MESH_CUT, 0, 0, 0, n, 0));
+    /* Example P11 of document 01. */
+    static const uint8_t p11[] = {1, 2, 0xaa, 0xbb, 0, 5, 1, 2, 3, 4, 5, 2, 0, 3, 9, 0xcc};
+    CHECK(do_count(true, p11, sizeof p11) == 0 && counted(2, 1, 6, 7, 3, 0));
+    CHECK(do_count(false, p11, sizeof p11) == 0 && counted(3, 0, 13, 0, 3, 0));
+}
+
+static void stream(void) {
+    uint8_t *b = bytes(1, 8180), sealed[8179];
+    CHECK(do_stream(true, b, 8180, 9000) == 5 && do_stream(true, b, 8180, 0) == 5);
+    CHECK(do_stream(true, b, 8179, 8178) == 21 && do_stream(false, b, 1, 0) == 21);
+    CHECK(do_stream(true, NULL, 0, 0) == 0 && do_stream(true, NULL, 0, 3) == 0);
+    for (size_t n = 0; n < 70; n++) CHECK(do_stream(n % 2, b, n, n) == 0);
+    CHECK(do_stream(true, b, 8179, 8190) == 0);
+    memcpy(sealed, written, sizeof sealed);
+    CHECK(do_stream(true, sealed, 8179, 8179) == 0 && memcmp(written, b, 8179) == 0);
+    memset(b, 0, 8179);
+    CHECK(do_stream(true, b, 8179, 8179) == 0);
+    CHECK(memcmp(written, written + 256 * 16, 16) == 0 && memcmp(written, written + 255 * 16, 16) != 0);
+    free(b);
+}
+
+static uint8_t do_heartbeat(const uint8_t *b, size_t n, uint64_t places, uint64_t expected) {
+    uint8_t *v = copy(b, n);
+    uint64_t *entries = room(sizeof *entries);
+    uint8_t r = mesh_heartbeat(v, n, places, entries);
+    CHECK(r ? untouched(entries, sizeof *entries) : *entries == expected);
+    back(v, b, n);
+    free(entries);
+    return r;
+}
+
+static uint8_t do_entry(const uint8_t *b, size_t n, uint64_t i) {
+    uint8_t *v = copy(b, n);
+    uint32_t *id = room(sizeof *id);
+    int16_t *rssi = room(sizeof *rssi);
+    int8_t *snr = room(sizeof *snr);
+    uint8_t r = mesh_heartbeat_entry(v, n, i, id, rssi, snr);
+    if (r) {
+        CHECK(untouched(id, sizeof *id) && untouched(rssi, sizeof *rssi) && untouched(snr, sizeof *snr));
+    } else {
+        uint8_t *six = copy(b + 6 * i, 6);
+        uint32_t *id2 = room(sizeof *id2);
+        int16_t *rssi2 = room(sizeof *rssi2);
+        int8_t *snr2 = room(sizeof *snr2);
+        mesh_path_read(six, id2, rssi2, snr2);
+        CHECK(*id == *id2 && *rssi == *rssi2 && *snr == *snr2 && *rssi <= 0 && *rssi >= -255 && *snr >= -32 && *snr <= 31);
+        back(six, b + 6 * i, 6);
+        free(id2);
+        free(rssi2);
+        free(snr2);
+    }
+    back(v, b, n);
+    free(id);
+    free(rssi);
+    free(snr);
+    return r;
+}
+
+static void heartbeats(void) {
+    uint8_t *b = bytes(1, 258);
+    CHECK(do_heartbeat(b, 256, 0, 0) == 19 && do_heartbeat(b, 258, 99, 0) == 19);
+    CHECK(do_heartbeat(b, 255, 0, 0) == 20 && do_heartbeat(b, 1, 0, 0) == 20);
+    CHECK(do_heartbeat(b, 252, 41, 0) == 21 && do_heartbeat(b, 6, 0, 0) == 21);
+    CHECK(do_heartbeat(b, 252, 42, 42) == 0 && do_heartbeat(b, 252, UINT64_MAX, 42) == 0 && do_heartbeat(b, 0, 0, 0) == 0);
+    /* Six times the last three is 2, 0 and 4 modulo 2^64. */
+    static const uint64_t far[] = {2, UINT64_MAX, 0x2aaaaaaaaaaaaaab, 0x8000000000000000, 0x5555555555555556};
+    for (size_t i = 0; i < COUNT(far); i++) CHECK(do_entry(b, 12, far[i]) == 45 && do_entry(b, 0, far[i]) == 45);
+    CHECK(do_entry(b, 0, 0) == 45 && do_entry(b, 5, 0) == 45);
+    for (uint64_t i = 0; i < 42; i++) CHECK(do_entry(b, 252, i) == 0);
+    free(b);
+}
+
+static uint8_t do_heartbeat_write(const uint32_t *a, size_t na, const int16_t *b, size_t nb, const int8_t *c, size_t nc, size_t out_len) {
+    uint32_t *x = copy(a, na * sizeof *a);
+    int16_t *y = copy(b, nb * sizeof *b);
+    int8_t *z = copy(c, nc);
+    uint8_t *out = room(out_len);
+    uint64_t *length = room(sizeof *length);
+    uint8_t r = mesh_heartbeat_write(x, na, y, nb, z, nc, out, out_len, length);
+    wrote(r, out, out_len, length);
+    back(x, a, na * sizeof *a);
+    back(y, b, nb * sizeof *b);
+    back(z, c, nc);
+    return r;
+}
+
+static void heartbeats_written(void) {
+    uint32_t a[43];
+    int16_t b[43];
+    int8_t c[43];
+    for (size_t i = 0; i < 43; i++) {
+        a[i] = (uint32_t)i;
+        b[i] = -1;
+        c[i] = -1;
+    }
+    CHECK(do_heartbeat_write(a, 43, b, 43, c, 43, 999) == 19 && do_heartbeat_write(a, 42, b, 42, c, 42, 251) == 21);
+    CHECK(do_heartbeat_write(a, 42, b, 42, c, 42, 252) == 0 && written_length == 252);
+    CHECK(memcmp(written + 246, "\0\0\0\51\1\77", 6) == 0);
+    CHECK(do_heartbeat_write(a, 42, b, 42, c, 42, 300) == 0 && do_heartbeat_write(a, 0, b, 0, c, 0, 0) == 0);
+    static const int16_t bad_rssi[] = {1, -256, 0, 0};
+    static const int8_t bad_snr[] = {32, 32, -33, 32};
+    for (uint8_t i = 0; i < 4; i++) {
+        b[42] = bad_rssi[i];
+        c[42] = bad_snr[i];
+        CHECK(do_heartbeat_write(a, 43, b, 43, c, 43, 0) == 10 + i);
+    }
+    /* The shortest list counts. */
+    for (size_t i = 0; i < 3; i++) {
+        const uint8_t r = do_heartbeat_write(a, i == 0 ? 1 : 2, b, i == 1 ? 1 : 2, c, i == 2 ? 1 : 2, 12);
+        CHECK(r == 0 && written_length == 6);
+    }
+}
+
+/* ---- fields */
+
+static void fields(void) {
+    for (unsigned n = 0; n < 256; n++) {
+        CHECK(mesh_type((uint8_t)n) == (n < 4 ? 0 : 29));
+        uint8_t *header = room(2);
+        const uint8_t r = mesh_header_read((uint8_t)n, header);
+        CHECK(n < 0xe0 ? r == 3 && untouched(header, 2) : r == 0 && header[0] == ((n >> 3) & 3) && header[1] == (n & 7) + 1);
+        free(header);
+        for (unsigned hop = 0; hop < 256; hop++) {
+            uint8_t *b = room(1);
+            const uint8_t w = mesh_header_write((uint8_t)n, (uint8_t)hop, b);
+            CHECK(w == (n > 3 ? 29 : hop == 0 ? 6 : hop > 8 ? 7 : 0));
+            CHECK(*b == (w ? BEFORE : (0xe0 | n << 3 | (hop - 1))));
+            free(b);
+        }
+    }
+}
+
+static uint8_t do_uplink(uint16_t id, uint8_t dr, int16_t rssi, int8_t snr) {
+    uint8_t *b = room(5);
+    uint8_t r = mesh_uplink_metadata_write(id, dr, rssi, snr, 255, b);
+    if (r) {
+        CHECK(untouched(b, 5));
+    } else {
+        uint64_t *n = room(3 * sizeof *n);
+        int16_t *rssi2 = room(sizeof *rssi2);
+        int8_t *snr2 = room(sizeof *snr2);
+        mesh_uplink_metadata_read(b, n, rssi2, snr2);
+        CHECK(n[0] == id && n[1] == dr && n[2] == 255 && *rssi2 == rssi && *snr2 == snr);
+        free(n);
+        free(rssi2);
+        free(snr2);
+    }
+    free(b);
+    return r;
+}
+
+static uint8_t do_downlink(uint16_t id, uint8_t dr, uint32_t frequency, uint8_t tx_power, uint8_t delay) {
+    uint8_t *b = room(6);
+    uint8_t r = mesh_downlink_metadata_write(id, dr, frequency, tx_power, delay, b);
+    if (r) {
+        CHECK(untouched(b, 6));
+    } else {
+        uint64_t *n = room(5 * sizeof *n);
+        mesh_downlink_metadata_read(b, n);
+        CHECK(n[0] == id && n[1] == dr && n[2] == frequency && n[3] == tx_power && n[4] == delay);
+        free(n);
+    }
+    free(b);
+    return r;
+}
+
+static uint8_t do_path(int16_t rssi, int8_t snr) {
+    uint8_t *b = room(6);
+    uint8_t r = mesh_path_write(UINT32_MAX, rssi, snr, b);
+    CHECK(r ? untouched(b, 6) : memcmp(b, "\377\377\377\377", 4) == 0);
+    if (r == 0) CHECK(do_entry(b, 6, 0) == 0);
+    free(b);
+    return r;
+}
+
+static uint8_t do_frequency(uint32_t hertz, uint32_t back_hertz) {
+    uint8_t *b = room(3);
+    uint8_t r = mesh_frequency_write(hertz, b);
+    if (r) {
+        CHECK(untouched(b, 3));
+    } else {
+        uint32_t *h = room(sizeof *h);
+        CHECK(mesh_frequency_read(b, 3, h) == 0 && *h == back_hertz);
+        free(h);
+    }
+    free(b);
+    return r;
+}
+
+static void metadata(void) {
+    CHECK(do_uplink(4096, 16, 1, -33) == 8 && do_uplink(4095, 16, 1, -33) == 9 && do_uplink(4095, 15, 1, -33) == 10);
+    CHECK(do_uplink(4095, 15, -256, -33) == 11 && do_uplink(4095, 15, -255, -33) == 12 && do_uplink(4095, 15, -255, 32) == 13);
+    CHECK(do_uplink(4095, 15, -255, -32) == 0 && do_uplink(0, 0, 0, 31) == 0);
+    CHECK(do_downlink(4096, 16, 1, 16, 0) == 8 && do_downlink(4095, 16, 1, 16, 0) == 9 && do_downlink(4095, 15, 1, 16, 0) == 14);
+    CHECK(do_downlink(4095, 15, 1, 16, 17) == 15 && do_downlink(4095, 15, 1, 15, 17) == 16);
+    CHECK(do_downlink(4095, 15, 1677721650, 15, 16) == 17 && do_downlink(4095, 15, 1, 15, 16) == 18);
+    CHECK(do_downlink(4095, 15, 868100000, 15, 16) == 0 && do_downlink(0, 0, 0, 0, 1) == 0);
+    CHECK(do_path(1, -33) == 10 && do_path(-256, -33) == 11 && do_path(-255, -33) == 12 && do_path(-255, 32) == 13);
+    CHECK(do_path(-255, -32) == 0 && do_path(0, 31) == 0);
+    CHECK(do_frequency(1677721600, 0) == 17 && do_frequency(UINT32_MAX, 0) == 17 && do_frequency(1677721650, 0) == 17);
+    CHECK(do_frequency(1677721599, 0) == 18 && do_frequency(1, 0) == 18 && do_frequency(0, 0) == 0);
+    CHECK(do_frequency(868100000, 868100000) == 0 && do_frequency(2400000001, 2400000000) == 0);
+    CHECK(do_frequency(1677721500, 3355443000) == 0 && do_frequency(1200000000, 2400000000) == 0);
+    for (size_t n = 0; n < 8; n++) {
+        uint8_t *b = room(n);
+        uint32_t *h = room(sizeof *h);
+        const uint8_t r = mesh_frequency_read(b, n, h);
+        CHECK(n == 3 ? r == 0 : r == 28 && untouched(h, sizeof *h));
+        free(b);
+        free(h);
+    }
+}
+
+/* ---- keys, cipher and MIC */
+
+static uint8_t do_key(bool text, const void *b, size_t n) {
+    uint8_t *from = copy(b, n), *key = room(16);
+    uint8_t r = text ? mesh_key_of_text(from, n, key) : mesh_key(from, n, key);
+    if (r)
+        CHECK(untouched(key, 16));
+    else
+        memcpy(written, key, 16);
+    back(from, b, n);
+    free(key);
+    return r;
+}
+
+static void keys(void) {
+    uint8_t text[40];
+    memset(text, 'g', sizeof text);
+    for (size_t n = 0; n <= 40; n++) {
+        CHECK(do_key(false, text, n) == (n == 16 ? 0 : 25) && do_key(true, text, n) == (n == 32 ? 26 : 25));
+        uint8_t *out = room(n), *key = copy(KEY, 16);
+        const uint8_t r = mesh_key_text(key, out, n);
+        if (n < 32)
+            CHECK(r == 21 && untouched(out, n));
+        else
+            CHECK(r == 0 && memcmp(out, "000102030405060708090a0b0c0d0e0f", 32) == 0 && untouched(out + 32, n - 32));
+        back(key, KEY, 16);
+        free(out);
+    }
+    static const uint8_t bad[] = {'g', 'G', '/', ':', '@', '`', ' ', 0, 0xff};
+    for (size_t i = 0; i < 32; i++)
+        for (size_t k = 0; k < COUNT(bad); k++) {
+            memset(text, 'a', 32);
+            text[i] = bad[k];
+            CHECK(do_key(true, text, 32) == 26);
+        }
+    CHECK(do_key(true, "000102030405060708090A0B0c0D0e0f", 32) == 0 && memcmp(written, KEY, 16) == 0);
+    uint8_t *key = room(16);
+    mesh_null_key(key);
+    for (size_t i = 0; i < 16; i++) CHECK(key[i] == 0);
+    free(key);
+}
+
+static void cipher(void) {
+    /* FIPS 197, C.1. */
+    static const uint8_t clear[16] = {0x00, 0x11, 0x22, 0x33, 0x44, 0x55, 0x66, 0x77, 0x88, 0x99, 0xaa, 0xbb, 0xcc, 0xdd, 0xee, 0xff};
+    static const uint8_t made[16] = {0x69, 0xc4, 0xe0, 0xd8, 0x6a, 0x7b, 0x04, 0x30, 0xd8, 0xcd, 0xb7, 0x80, 0x70, 0xb4, 0xc5, 0x5a};
+    uint8_t *key = copy(KEY, 16), *a = copy(clear, 16), *b = copy(clear, 16);
+    uint32_t *words = room(300 * sizeof *words);
+    mesh_encrypt_block(key, a);
+    mesh_prepare(key, words);
+    uint32_t *before = copy(words, 300 * sizeof *words);
+    mesh_encipher(words, b);
+    CHECK(memcmp(a, made, 16) == 0 && memcmp(b, made, 16) == 0);
+    memset(a, 0, 16);
+    memset(b, 0, 16);
+    b[0] = 1;
+    mesh_encrypt_block(key, a);
+    mesh_encrypt_block(key, b);
+    uint8_t *signing = room(16), *encryption = room(16);
+    mesh_signing_key(key, signing);
+    mesh_encryption_key(key, encryption);
+    CHECK(memcmp(a, signing, 16) == 0 && memcmp(b, encryption, 16) == 0);
+    for (size_t n = 0; n <= 9000; n = n < 70 ? n + 1 : n == 70 ? 8192 : n == 8192 ? 9000 : 9001) {
+        uint8_t *message = bytes(1, n), *same = copy(message, n);
+        mesh_cmac(key, same, n, a);
+        mesh_mac(words, same, n, b);
+        CHECK(memcmp(a, b, 16) == 0);
+        back(same, message, n);
+        free(message);
+    }
+    back(words, before, 300 * sizeof *words);
+    back(key, KEY, 16);
+    free(before);
+    free(a);
+    free(b);
+    free(signing);
+    free(encryption);
+    /* Words that no key makes are a cipher too, if no good one. */
+    words = room(300 * sizeof *words);
+    b = room(16);
+    mesh_encipher(words, b);
+    mesh_mac(words, clear, 16, b);
+    CHECK(untouched(words, 300 * sizeof *words));
+    free(words);
+    free(b);
+    /* RFC 4493, examples 1 and 2. */
+    static const uint8_t rfc[16] = {0x2b, 0x7e, 0x15, 0x16, 0x28, 0xae, 0xd2, 0xa6, 0xab, 0xf7, 0x15, 0x88, 0x09, 0xcf, 0x4f, 0x3c};
+    static const uint8_t m16[16] = {0x6b, 0xc1, 0xbe, 0xe2, 0x2e, 0x40, 0x9f, 0x96, 0xe9, 0x3d, 0x7e, 0x11, 0x73, 0x93, 0x17, 0x2a};
+    static const uint8_t t0[16] = {0xbb, 0x1d, 0x69, 0x29, 0xe9, 0x59, 0x37, 0x28, 0x7f, 0xa3, 0x7d, 0x12, 0x9b, 0x75, 0x67, 0x46};
+    static const uint8_t t16[16] = {0x07, 0x0a, 0x16, 0xb4, 0x6b, 0x4d, 0x41, 0x44, 0xf7, 0x9b, 0xdd, 0x9d, 0xd0, 0x4a, 0x28, 0x7c};
+    uint8_t tag[16];
+    mesh_cmac(rfc, m16, 0, tag);
+    CHECK(memcmp(tag, t0, 16) == 0);
+    mesh_cmac(rfc, m16, 16, tag);
+    CHECK(memcmp(tag, t16, 16) == 0);
+}
+
+/* ---- duplicates */
+
+static uint8_t do_record(const mesh_packet *p, uint64_t id, uint64_t timestamp) {
+    uint64_t *known = room(4 * sizeof *known);
+    uint8_t r = mesh_record(MESH_PACKET_OF(p), known);
+    if (r)
+        CHECK(untouched(known, 4 * sizeof *known));
+    else
+        CHECK(known[0] == p->payload_type && known[1] == id && known[2] == timestamp && known[3] == p->relay_id);
+    free(known);
+    return r;
+}
+
+/* 0 and 1 of a record that is seen and new, or the number. */
+static unsigned add(uint32_t *held, uint8_t type, uint32_t relay_id) {
+    uint32_t *words = copy(held, sizeof(mesh_cache));
+    uint8_t *is_new = room(1);
+    const uint8_t r = mesh_cache_add(words, type, 1, 2, relay_id, is_new);
+    CHECK(r ? *is_new == BEFORE : *is_new < 2);
+    CHECK((r == 0 && *is_new == 1) || memcmp(words, held, sizeof(mesh_cache)) == 0);
+    const unsigned answer = r ? r : *is_new;
+    memcpy(held, words, sizeof(mesh_cache));
+    free(words);
+    free(is_new);
+    return answer;
+}
+
+static void caches(void) {
+    mesh_packet p;
+    for (uint8_t kind = 0; kind < 4; kind++) {
+        p = at(kind, MESH_SEALED, UINT64_MAX, UINT64_MAX);
+        CHECK(do_record(&p, kind < 2 ? 291 : 0, kind < 2 ? 0 : 60) == 0);
+        p.payload_type = 4;
+        CHECK(do_record(&p, 0, 0) == 29);
+    }
+    for (unsigned kind = 4; kind < 256; kind++) {
+        p = good((uint8_t)kind);
+        p.payload_type = 0;
+        CHECK(do_record(&p, 0, 0) == 29);
+    }
+    static const uint32_t sizes[] = {0, 65, 66, UINT32_MAX, 1, 2, 63, 64};
+    for (size_t i = 0; i < COUNT(sizes); i++) {
+        const uint32_t size = sizes[i];
+        uint32_t *words = room(sizeof(mesh_cache));
+        if (i < 4) {
+            CHECK(mesh_cache_clear(words, size) == 24 && untouched(words, sizeof(mesh_cache)));
+        } else {
+            CHECK(mesh_cache_clear(words, size) == 0 && add(words, 4, 0) == 29 && add(words, 255, 0) == 29);
+            for (uint32_t id = 0; id < 3 * size; id++) {
+                CHECK(add(words, 0, id) == 1 && add(words, 0, id) == 0);
+                CHECK(add(words, 0, id < size ? 0 : id - size + 1) == 0);
+            }
+            CHECK(add(words, 0, 2 * size - 1) == 1);
+        }
+        free(words);
+    }
+    /* Words that no cache is: refused or taken, and nothing beside them is touched. */
+    mesh_cache none;
+    memset(&none, 0, sizeof none);
+    CHECK(add(none.words, 0, 1) == 24);
+    static const uint32_t odd[] = {0, 1, 63, 64, 65, UINT32_MAX};
+    for (size_t i = 0; i < MESH_CACHE_WORDS; i++)
+        for (size_t k = 0; k < COUNT(odd); k++)
+            for (uint32_t fill = 0; fill < 4; fill++) {
+                mesh_cache c;
+                for (size_t w = 0; w < MESH_CACHE_WORDS; w++) c.words[w] = fill == 3 ? UINT32_MAX : 31 * fill;
+                c.words[i] = odd[k];
+                add(c.words, 0, 1);
+            }
+}
+
+/* ---- text */
+
+static uint8_t do_dump(bool line, const void *b, size_t n, size_t out_len) {
+    uint8_t *from = copy(b, n), *out = room(out_len);
+    uint64_t *length = room(sizeof *length);
+    uint8_t r = line ? mesh_dump_line(from, n, out, out_len, length) : mesh_dump_frame(from, n, out, out_len, length);
+    wrote(r, out, out_len, length);
+    back(from, b, n);
+    return r;
+}
+
+static bool text(const char *expected) { return written_length == strlen(expected) && memcmp(written, expected, strlen(expected)) == 0; }
+
+static void dumps(void) {
+    static const char *const lines[][2] = {
+        {"e012355007020a0b0c0d11223344", "[Uplink hop_count: 1, uplink_id: 291, relay_id: 0a0b0c0d, mic: 11223344]"},
+        {"F20000003c0a0b0c0d01020304", "[Event hop_count: 3, timestamp: 60, relay_id: 0a0b0c0d]"},
+        {"efffff000000000a0b0c0dffffffff", "[Downlink hop_count: 8, uplink_id: 4095, relay_id: 0a0b0c0d, mic: ffffffff]"},
+        {"ffffffffff0a0b0c0d01020304", "[Command hop_count: 8, timestamp: 4294967295, relay_id: 0a0b0c0d]"},
+        {"40", "lora 1"},
+        {"e0", "refused 2"},
+        {"", "refused 1"},
+        {"4", "refused 30"},
+        {"4g", "refused 30"},
+    };
+    for (size_t i = 0; i < COUNT(lines); i++) {
+        const size_t n = strlen(lines[i][0]), most = strlen(lines[i][1]);
+        for (size_t out_len = 0; out_len < most; out_len++) CHECK(do_dump(true, lines[i][0], n, out_len) == 21);
+        CHECK(do_dump(true, lines[i][0], n, most) == 0 && text(lines[i][1]));
+        CHECK(do_dump(true, lines[i][0], n, 99) == 0 && text(lines[i][1]));
+    }
+    uint8_t *b = room(70000);
+    memset(b, '4', 70000);
+    CHECK(do_dump(true, b, 2 * 8192, 9) == 0 && text("lora 8192"));
+    CHECK(do_dump(true, b, 2 * 8193, 9) == 0 && text("refused 5"));
+    CHECK(do_dump(true, b, 2 * 8192 + 1, 10) == 0 && text("refused 30"));
+    CHECK(do_dump(true, b, 70000, 9) == 0 && text("refused 5"));
+    CHECK(do_dump(false, b, 8192, 9) == 0 && text("lora 8192"));
+    CHECK(do_dump(false, b, 8193, 9) == 0 && text("refused 5"));
+    CHECK(do_dump(false, b, 0, 9) == 0 && text("refused 1") && do_dump(false, b, 0, 8) == 21);
+    b[0] = 0xe0;
+    CHECK(do_dump(false, b, 13, 9) == 0 && text("refused 4") && do_dump(false, b, 4, 9) == 0 && text("refused 2"));
+    free(b);
+}
+
+int main(void) {
+    reading();
+    writing();
+    composing();
+    shared();
+    hops();
+    sealing();
+    items();
+    stream();
+    heartbeats();
+    heartbeats_written();
+    fields();
+    metadata();
+    keys();
+    cipher();
+    caches();
+    dumps();
+    printf("%lu checks passed\n", checks);
+    return 0;
+}

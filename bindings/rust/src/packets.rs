@@ -1,0 +1,553 @@
+//! Packets.
+use crate::cache::Record;
+use crate::fields::{DownlinkMetadata, Header, PayloadType, RelayId, UplinkMetadata};
+use crate::items::{Command, Composed, Item, Items, Lists, Opening};
+use crate::keys::Key;
+use crate::raw;
+use crate::raw::{Flat, Place};
+use crate::Refusal;
+use crate::{part, FRAME_MOST};
+
+// enum mesh_kind of what is no mesh packet, and enum mesh_body.
+const LORA: u8 = 4;
+const EMPTY: u8 = 0;
+const SEALED: u8 = 1;
+const OPEN_IN_FRAME: u8 = 2;
+const OPEN_IN_WORK: u8 = 3;
+const ITEMS: u8 = 4;
+
+/// Any frame.
+#[derive(Clone, Debug, PartialEq, Eq)]
+pub enum Packet<'a> {
+    /// A mesh frame.
+    Mesh(MeshPacket<'a>),
+    /// Any other, which is LoRa's, as it is.
+    Lora(&'a [u8]),
+}
+
+impl<'a> Packet<'a> {
+    /// Reads a frame: [`Refusal::FrameEmpty`], [`Refusal::FrameLong`], [`Refusal::FrameShort`], [`Refusal::BodyShort`].
+    pub fn from_slice(frame: &'a [u8]) -> Result<Self, Refusal> {
+        let f = raw::read(frame)?;
+        if f.kind == LORA {
+            return Ok(Packet::Lora(part(frame, f.start, f.len)?));
+        }
+        MeshPacket::of(&f, frame).map(Packet::Mesh)
+    }
+
+    /// Writes it at the front of a lent slice; the answer is how many bytes.
+    pub fn write(&self, out: &mut [u8]) -> Result<usize, Refusal> {
+        match self {
+            Packet::Mesh(p) => p.write(out),
+            Packet::Lora(frame) => {
+                let f = Flat { kind: LORA, len: frame.len() as u64, ..Flat::default() };
+                raw::write(&f, &Lists::default().lent(frame), out)
+            }
+        }
+    }
+
+    /// Its bytes, allocated.
+    pub fn to_vec(&self) -> Result<Vec<u8>, Refusal> {
+        allocated(|out| self.write(out))
+    }
+}
+
+/// A mesh frame.
+#[derive(Clone, Debug, PartialEq, Eq)]
+pub struct MeshPacket<'a> {
+    /// Its header byte.
+    pub mhdr: Header,
+    /// Its body.
+    pub payload: Payload<'a>,
+    /// Its MIC, if it is signed.
+    pub mic: Option<[u8; 4]>,
+}
+
+/// The body of a mesh frame.
+#[derive(Clone, Debug, PartialEq, Eq)]
+pub enum Payload<'a> {
+    /// A LoRa frame that a relay received.
+    Uplink(UplinkPayload<'a>),
+    /// A LoRa frame that a relay is to send.
+    Downlink(DownlinkPayload<'a>),
+    /// What a relay tells.
+    Event(EventPayload<'a>),
+    /// What a relay is told.
+    Command(CommandPayload<'a>),
+}
+
+/// The body of an uplink.
+#[derive(Clone, Copy, Debug, PartialEq, Eq)]
+pub struct UplinkPayload<'a> {
+    /// How the relay received it.
+    pub metadata: UplinkMetadata,
+    /// The relay that received it.
+    pub relay_id: RelayId,
+    /// The LoRa frame.
+    pub phy_payload: &'a [u8],
+}
+
+/// The body of a downlink.
+#[derive(Clone, Copy, Debug, PartialEq, Eq)]
+pub struct DownlinkPayload<'a> {
+    /// How the relay is to send it.
+    pub metadata: DownlinkMetadata,
+    /// The relay that is to send it.
+    pub relay_id: RelayId,
+    /// The LoRa frame.
+    pub phy_payload: &'a [u8],
+}
+
+/// The body of an event.
+#[derive(Clone, Debug, PartialEq, Eq)]
+pub struct EventPayload<'a> {
+    /// Seconds since 1970.
+    pub timestamp: u32,
+    /// The relay that tells it.
+    pub relay_id: RelayId,
+    /// Its items.
+    pub events: Body<'a, Item>,
+}
+
+/// The body of a command.
+#[derive(Clone, Debug, PartialEq, Eq)]
+pub struct CommandPayload<'a> {
+    /// Seconds since 1970.
+    pub timestamp: u32,
+    /// The relay that is told.
+    pub relay_id: RelayId,
+    /// Its items.
+    pub commands: Body<'a, Command>,
+}
+
+/// The items of an event or a command. A sealed or an open run of no bytes, or no items, count as empty.
+#[derive(Clone, Debug, PartialEq, Eq)]
+pub enum Body<'a, I> {
+    /// None.
+    Empty,
+    /// Sealed bytes, of the frame that was read or of the slice that they were sealed into.
+    Sealed(&'a [u8]),
+    /// Clear bytes, of the frame or of the work buffer; what is skipped or cut in them is not written.
+    Open(&'a [u8]),
+    /// What a caller composes.
+    Items(Vec<I>),
+}
+
+fn allocated(write: impl FnOnce(&mut [u8]) -> Result<usize, Refusal>) -> Result<Vec<u8>, Refusal> {
+    let mut out = vec![0; FRAME_MOST];
+    let length = write(&mut out)?;
+    out.truncate(length);
+    Ok(out)
+}
+
+impl<'a, I> Body<'a, I> {
+    fn of(f: &Flat, frame: &'a [u8]) -> Result<Self, Refusal> {
+        Ok(match f.body {
+            EMPTY => Body::Empty,
+            SEALED => Body::Sealed(part(frame, f.start, f.len)?),
+            _ => Body::Open(part(frame, f.start, f.len)?),
+        })
+    }
+
+    /// The bytes that it lies in.
+    fn held(&self) -> &'a [u8] {
+        match self {
+            Body::Sealed(b) | Body::Open(b) => b,
+            Body::Empty | Body::Items(_) => &[],
+        }
+    }
+
+    fn place(&self) -> Place {
+        let (body, len) = match self {
+            Body::Empty => (EMPTY, 0),
+            Body::Sealed(b) => (SEALED, b.len()),
+            Body::Open(b) => (OPEN_IN_FRAME, b.len()),
+            Body::Items(items) => (ITEMS, items.len()),
+        };
+        Place { body, start: 0, len: len as u64 }
+    }
+
+    fn opened(&self) -> &'a [u8] {
+        match self {
+            Body::Open(b) => b,
+            _ => &[],
+        }
+    }
+
+    fn lists(&self) -> Lists
+    where
+        I: Composed,
+    {
+        let mut lists = Lists::default();
+        if let Body::Items(items) = self {
+            for item in items {
+                item.lay(&mut lists);
+            }
+        }
+        lists
+    }
+
+    fn encrypt(&mut self, f: &Flat, key: &Key, out: &'a mut [u8]) -> Result<(), Refusal>
+    where
+        I: Composed,
+    {
+        let to = raw::seal(f, key.bytes(), &self.lists().lent(self.held()), out)?;
+        self.moved(to, out)
+    }
+
+    fn decrypt(&mut self, f: &Flat, key: &Key, work: &'a mut [u8]) -> Result<Opening, Refusal> {
+        let (counts, to) = raw::decrypt(f, key.bytes(), self.held(), work)?;
+        self.moved(to, work)?;
+        Ok(Opening::of(counts))
+    }
+
+    fn decode(&mut self, f: &Flat) -> Result<Option<Opening>, Refusal> {
+        let Some((counts, to)) = raw::decode(f, self.held(), &[])? else {
+            return Ok(None);
+        };
+        self.moved(to, self.held())?;
+        Ok(Some(Opening::of(counts)))
+    }
+
+    /// Sealed or opened into other bytes. What keeps no item is empty from then on.
+    fn moved(&mut self, to: Place, into: &'a [u8]) -> Result<(), Refusal> {
+        *self = match to.body {
+            EMPTY => Body::Empty,
+            SEALED => Body::Sealed(part(into, to.start, to.len)?),
+            OPEN_IN_FRAME | OPEN_IN_WORK => Body::Open(part(into, to.start, to.len)?),
+            // No call moves composed items; they stay.
+            _ => return Ok(()),
+        };
+        Ok(())
+    }
+}
+
+impl<'a> UplinkPayload<'a> {
+    fn of(f: &Flat, frame: &'a [u8]) -> Result<Self, Refusal> {
+        Ok(UplinkPayload {
+            metadata: UplinkMetadata { uplink_id: f.uplink_id, dr: f.dr, rssi: f.rssi, snr: f.snr, channel: f.channel },
+            relay_id: f.relay_id.into(),
+            phy_payload: part(frame, f.start, f.len)?,
+        })
+    }
+
+    fn flat(&self) -> Flat {
+        let m = &self.metadata;
+        Flat {
+            kind: PayloadType::Uplink.to_byte(),
+            payload_type: PayloadType::Uplink.to_byte(),
+            relay_id: self.relay_id.number(),
+            uplink_id: m.uplink_id,
+            dr: m.dr,
+            rssi: m.rssi,
+            snr: m.snr,
+            channel: m.channel,
+            len: self.phy_payload.len() as u64,
+            ..Flat::default()
+        }
+    }
+
+    /// Reads a body: [`Refusal::FrameLong`], [`Refusal::BodyShort`].
+    pub fn from_slice(body: &'a [u8]) -> Result<Self, Refusal> {
+        UplinkPayload::of(&raw::read_body(PayloadType::Uplink.to_byte(), body)?, body)
+    }
+
+    /// Writes it at the front of a lent slice; the answer is how many bytes.
+    pub fn write(&self, out: &mut [u8]) -> Result<usize, Refusal> {
+        raw::write_body(&self.flat(), &Lists::default().lent(self.phy_payload), out)
+    }
+
+    /// Its bytes, allocated.
+    pub fn to_vec(&self) -> Result<Vec<u8>, Refusal> {
+        allocated(|out| self.write(out))
+    }
+}
+
+impl<'a> DownlinkPayload<'a> {
+    fn of(f: &Flat, frame: &'a [u8]) -> Result<Self, Refusal> {
+        Ok(DownlinkPayload {
+            metadata: DownlinkMetadata { uplink_id: f.uplink_id, dr: f.dr, frequency: f.frequency, tx_power: f.tx_power, delay: f.delay },
+            relay_id: f.relay_id.into(),
+            phy_payload: part(frame, f.start, f.len)?,
+        })
+    }
+
+    fn flat(&self) -> Flat {
+        let m = &self.metadata;
+        Flat {
+            kind: PayloadType::Downlink.to_byte(),
+            payload_type: PayloadType::Downlink.to_byte(),
+            relay_id: self.relay_id.number(),
+            uplink_id: m.uplink_id,
+            dr: m.dr,
+            frequency: m.frequency,
+            tx_power: m.tx_power,
+            delay: m.delay,
+            len: self.phy_payload.len() as u64,
+            ..Flat::default()
+        }
+    }
+
+    /// Reads a body: [`Refusal::FrameLong`], [`Refusal::BodyShort`].
+    pub fn from_slice(body: &'a [u8]) -> Result<Self, Refusal> {
+        DownlinkPayload::of(&raw::read_body(PayloadType::Downlink.to_byte(), body)?, body)
+    }
+
+    /// Writes it at the front of a lent slice; the answer is how many bytes.
+    pub fn write(&self, out: &mut [u8]) -> Result<usize, Refusal> {
+        raw::write_body(&self.flat(), &Lists::default().lent(self.phy_payload), out)
+    }
+
+    /// Its bytes, allocated.
+    pub fn to_vec(&self) -> Result<Vec<u8>, Refusal> {
+        allocated(|out| self.write(out))
+    }
+}
+
+fn stamped(kind: PayloadType, timestamp: u32, relay_id: RelayId, at: Place) -> Flat {
+    Flat {
+        kind: kind.to_byte(),
+        payload_type: kind.to_byte(),
+        relay_id: relay_id.number(),
+        timestamp,
+        body: at.body,
+        start: at.start,
+        len: at.len,
+        ..Flat::default()
+    }
+}
+
+impl<'a> EventPayload<'a> {
+    fn of(f: &Flat, frame: &'a [u8]) -> Result<Self, Refusal> {
+        Ok(EventPayload { timestamp: f.timestamp, relay_id: f.relay_id.into(), events: Body::of(f, frame)? })
+    }
+
+    fn flat(&self) -> Flat {
+        stamped(PayloadType::Event, self.timestamp, self.relay_id, self.events.place())
+    }
+
+    /// Reads a body: [`Refusal::FrameLong`], [`Refusal::BodyShort`].
+    pub fn from_slice(body: &'a [u8]) -> Result<Self, Refusal> {
+        EventPayload::of(&raw::read_body(PayloadType::Event.to_byte(), body)?, body)
+    }
+
+    /// Writes it at the front of a lent slice; the answer is how many bytes.
+    pub fn write(&self, out: &mut [u8]) -> Result<usize, Refusal> {
+        raw::write_body(&self.flat(), &self.events.lists().lent(self.events.held()), out)
+    }
+
+    /// Its bytes, allocated.
+    pub fn to_vec(&self) -> Result<Vec<u8>, Refusal> {
+        allocated(|out| self.write(out))
+    }
+
+    /// Seals the items into a lent slice, which holds them from then on. Sealing what is sealed gives the clear bytes, still marked sealed.
+    pub fn encrypt(&mut self, key: &Key, out: &'a mut [u8]) -> Result<(), Refusal> {
+        self.events.encrypt(&self.flat(), key, out)
+    }
+
+    /// Opens the items into a work buffer, which holds them from then on: [`Refusal::OpenMany`], [`Refusal::OpenOne`],
+    /// [`Refusal::FrameLong`], [`Refusal::OutputShort`]. A payload that keeps no item is empty from then on.
+    pub fn decrypt(&mut self, key: &Key, work: &'a mut [u8]) -> Result<Opening, Refusal> {
+        self.events.decrypt(&self.flat(), key, work)
+    }
+
+    /// Takes the sealed bytes as clear ones, which they are where the sender does not seal; `None` where they are open already.
+    pub fn decode(&mut self) -> Result<Option<Opening>, Refusal> {
+        self.events.decode(&self.flat())
+    }
+
+    /// The items of an open payload; of any other, none.
+    pub fn items(&self) -> Result<Items<'a>, Refusal> {
+        Items::of_event(self.events.opened())
+    }
+}
+
+impl<'a> CommandPayload<'a> {
+    fn of(f: &Flat, frame: &'a [u8]) -> Result<Self, Refusal> {
+        Ok(CommandPayload { timestamp: f.timestamp, relay_id: f.relay_id.into(), commands: Body::of(f, frame)? })
+    }
+
+    fn flat(&self) -> Flat {
+        stamped(PayloadType::Command, self.timestamp, self.relay_id, self.commands.place())
+    }
+
+    /// Reads a body: [`Refusal::FrameLong`], [`Refusal::BodyShort`].
+    pub fn from_slice(body: &'a [u8]) -> Result<Self, Refusal> {
+        CommandPayload::of(&raw::read_body(PayloadType::Command.to_byte(), body)?, body)
+    }
+
+    /// Writes it at the front of a lent slice; the answer is how many bytes.
+    pub fn write(&self, out: &mut [u8]) -> Result<usize, Refusal> {
+        raw::write_body(&self.flat(), &self.commands.lists().lent(self.commands.held()), out)
+    }
+
+    /// Its bytes, allocated.
+    pub fn to_vec(&self) -> Result<Vec<u8>, Refusal> {
+        allocated(|out| self.write(out))
+    }
+
+    /// Seals the items into a lent slice, as of an event.
+    pub fn encrypt(&mut self, key: &Key, out: &'a mut [u8]) -> Result<(), Refusal> {
+        self.commands.encrypt(&self.flat(), key, out)
+    }
+
+    /// Opens the items into a work buffer, as of an event.
+    pub fn decrypt(&mut self, key: &Key, work: &'a mut [u8]) -> Result<Opening, Refusal> {
+        self.commands.decrypt(&self.flat(), key, work)
+    }
+
+    /// Takes the sealed bytes as clear ones; `None` where they are open already.
+    pub fn decode(&mut self) -> Result<Option<Opening>, Refusal> {
+        self.commands.decode(&self.flat())
+    }
+
+    /// The items of an open payload; of any other, none.
+    pub fn items(&self) -> Result<Items<'a>, Refusal> {
+        Items::of_command(self.commands.opened())
+    }
+}
+
+impl<'a> Payload<'a> {
+    fn of(f: &Flat, frame: &'a [u8]) -> Result<Self, Refusal> {
+        Ok(match PayloadType::from_byte(f.kind)? {
+            PayloadType::Uplink => Payload::Uplink(UplinkPayload::of(f, frame)?),
+            PayloadType::Downlink => Payload::Downlink(DownlinkPayload::of(f, frame)?),
+            PayloadType::Event => Payload::Event(EventPayload::of(f, frame)?),
+            PayloadType::Command => Payload::Command(CommandPayload::of(f, frame)?),
+        })
+    }
+
+    /// Its relay: of an uplink or an event the one that sent it, of a downlink or a command the one that is to take it.
+    pub fn relay_id(&self) -> RelayId {
+        match self {
+            Payload::Uplink(p) => p.relay_id,
+            Payload::Downlink(p) => p.relay_id,
+            Payload::Event(p) => p.relay_id,
+            Payload::Command(p) => p.relay_id,
+        }
+    }
+
+    fn flat(&self) -> Flat {
+        match self {
+            Payload::Uplink(p) => p.flat(),
+            Payload::Downlink(p) => p.flat(),
+            Payload::Event(p) => p.flat(),
+            Payload::Command(p) => p.flat(),
+        }
+    }
+
+    fn lists(&self) -> Lists {
+        match self {
+            Payload::Uplink(_) | Payload::Downlink(_) => Lists::default(),
+            Payload::Event(p) => p.events.lists(),
+            Payload::Command(p) => p.commands.lists(),
+        }
+    }
+
+    fn held(&self) -> &'a [u8] {
+        match self {
+            Payload::Uplink(p) => p.phy_payload,
+            Payload::Downlink(p) => p.phy_payload,
+            Payload::Event(p) => p.events.held(),
+            Payload::Command(p) => p.commands.held(),
+        }
+    }
+}
+
+impl<'a> MeshPacket<'a> {
+    fn of(f: &Flat, frame: &'a [u8]) -> Result<Self, Refusal> {
+        Ok(MeshPacket {
+            mhdr: Header { payload_type: PayloadType::from_byte(f.payload_type)?, hop_count: f.hop_count },
+            payload: Payload::of(f, frame)?,
+            mic: f.has_mic.then_some(f.mic.to_be_bytes()),
+        })
+    }
+
+    fn flat(&self) -> Flat {
+        Flat {
+            payload_type: self.mhdr.payload_type.to_byte(),
+            hop_count: self.mhdr.hop_count,
+            has_mic: self.mic.is_some(),
+            mic: self.mic.map_or(0, u32::from_be_bytes),
+            ..self.payload.flat()
+        }
+    }
+
+    /// Reads a mesh frame: [`Refusal::FrameEmpty`], [`Refusal::FrameLong`], [`Refusal::FrameShort`], [`Refusal::NotMesh`],
+    /// [`Refusal::BodyShort`].
+    pub fn from_slice(frame: &'a [u8]) -> Result<Self, Refusal> {
+        MeshPacket::of(&raw::read_mesh(frame)?, frame)
+    }
+
+    /// Writes it at the front of a lent slice; the answer is how many bytes. Hop count, fields and items are met first, then
+    /// [`Refusal::MicMissing`], [`Refusal::FrameLong`], [`Refusal::OutputShort`].
+    pub fn write(&self, out: &mut [u8]) -> Result<usize, Refusal> {
+        raw::write(&self.flat(), &self.payload.lists().lent(self.payload.held()), out)
+    }
+
+    /// Its bytes, allocated.
+    pub fn to_vec(&self) -> Result<Vec<u8>, Refusal> {
+        allocated(|out| self.write(out))
+    }
+
+    /// Sets the MIC that it has under a signing key. What is to be sealed must be sealed first.
+    pub fn set_mic(&mut self, key: &Key) -> Result<(), Refusal> {
+        let made = raw::sign(&self.flat(), key.bytes(), &self.payload.lists().lent(self.payload.held()))?;
+        self.mic = Some(made.to_be_bytes());
+        Ok(())
+    }
+
+    /// Whether it has the MIC that it should have under a signing key; [`Refusal::MicMissing`].
+    pub fn validate_mic(&self, key: &Key) -> Result<bool, Refusal> {
+        raw::validate(&self.flat(), key.bytes(), &self.payload.lists().lent(self.payload.held()))
+    }
+
+    /// Seals the items of an event or a command, as [`EventPayload::encrypt`]; of the others nothing.
+    pub fn encrypt(&mut self, key: &Key, out: &'a mut [u8]) -> Result<(), Refusal> {
+        match &mut self.payload {
+            Payload::Event(p) => p.encrypt(key, out),
+            Payload::Command(p) => p.encrypt(key, out),
+            Payload::Uplink(_) | Payload::Downlink(_) => Ok(()),
+        }
+    }
+
+    /// Opens the items of an event or a command, as [`EventPayload::decrypt`]; the others hold none, and nothing is done.
+    pub fn decrypt(&mut self, key: &Key, work: &'a mut [u8]) -> Result<Opening, Refusal> {
+        match &mut self.payload {
+            Payload::Event(p) => p.decrypt(key, work),
+            Payload::Command(p) => p.decrypt(key, work),
+            Payload::Uplink(_) | Payload::Downlink(_) => {
+                raw::decrypt(&self.flat(), key.bytes(), self.payload.held(), work).map(|(counts, _)| Opening::of(counts))
+            }
+        }
+    }
+
+    /// Takes sealed bytes as clear ones, as [`EventPayload::decode`].
+    pub fn decode(&mut self) -> Result<Option<Opening>, Refusal> {
+        match &mut self.payload {
+            Payload::Event(p) => p.decode(),
+            Payload::Command(p) => p.decode(),
+            Payload::Uplink(_) | Payload::Downlink(_) => {
+                Ok(raw::decode(&self.flat(), self.payload.held(), &[])?.map(|(counts, _)| Opening::of(counts)))
+            }
+        }
+    }
+
+    /// What it is known by in a [`Cache`](crate::Cache).
+    pub fn record(&self) -> Result<Record, Refusal> {
+        let [p_type, uplink_id, timestamp, relay_id] = raw::record(&self.flat())?;
+        Ok(Record {
+            p_type: PayloadType::from_byte(p_type as u8)?,
+            uplink_id: uplink_id as u16,
+            timestamp: timestamp as u32,
+            relay_id: RelayId::from(relay_id as u32),
+        })
+    }
+}
+
+/// Gives a received mesh frame another hop count and signs it again, in its buffer: what [`MeshPacket::from_slice`] refuses, then
+/// [`Refusal::HopsNone`], [`Refusal::HopsMany`].
+pub fn set_hop_count(frame: &mut [u8], hop_count: u8, key: &Key) -> Result<(), Refusal> {
+    raw::set_hop_count(key.bytes(), frame, hop_count)
+}

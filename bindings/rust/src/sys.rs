@@ -1,0 +1,341 @@
+//! The exported functions of `include/mesh.h`, as they stand there.
+//!
+//! The prover does not know these declarations; `tools/faces` compares them, as text, with the header and with the library. Pointers are never
+//! null, also where a length is 0, and what is written overlaps nothing else that the same call is lent; slices and references of Rust keep
+//! both.
+#![allow(dead_code)]
+
+extern "C" {
+    // Reading.
+    pub(crate) fn mesh_read(frame: *const u8, n: usize, numbers: *mut [u64; 16], rssi: *mut i16, snr: *mut i8) -> u8;
+    pub(crate) fn mesh_read_mesh(frame: *const u8, n: usize, numbers: *mut [u64; 16], rssi: *mut i16, snr: *mut i8) -> u8;
+    pub(crate) fn mesh_read_body(kind: u8, body: *const u8, n: usize, numbers: *mut [u64; 16], rssi: *mut i16, snr: *mut i8) -> u8;
+
+    // Writing.
+    pub(crate) fn mesh_write(
+        kind: u8,
+        payload_type: u8,
+        hop_count: u8,
+        has_mic: bool,
+        mic: u32,
+        relay_id: u32,
+        uplink_id: u16,
+        dr: u8,
+        rssi: i16,
+        snr: i8,
+        channel: u8,
+        frequency: u32,
+        tx_power: u8,
+        delay: u8,
+        timestamp: u32,
+        body: u8,
+        start: u64,
+        len: u64,
+        frame: *const u8,
+        frame_len: usize,
+        work: *const u8,
+        work_len: usize,
+        kinds: *const [u8; 2],
+        kinds_len: usize,
+        spans: *const [u32; 2],
+        spans_len: usize,
+        ids: *const u32,
+        ids_len: usize,
+        rssis: *const i16,
+        rssis_len: usize,
+        snrs: *const i8,
+        snrs_len: usize,
+        out: *mut u8,
+        out_len: usize,
+        length: *mut u64,
+    ) -> u8;
+    pub(crate) fn mesh_write_body(
+        kind: u8,
+        payload_type: u8,
+        hop_count: u8,
+        has_mic: bool,
+        mic: u32,
+        relay_id: u32,
+        uplink_id: u16,
+        dr: u8,
+        rssi: i16,
+        snr: i8,
+        channel: u8,
+        frequency: u32,
+        tx_power: u8,
+        delay: u8,
+        timestamp: u32,
+        body: u8,
+        start: u64,
+        len: u64,
+        frame: *const u8,
+        frame_len: usize,
+        work: *const u8,
+        work_len: usize,
+        kinds: *const [u8; 2],
+        kinds_len: usize,
+        spans: *const [u32; 2],
+        spans_len: usize,
+        ids: *const u32,
+        ids_len: usize,
+        rssis: *const i16,
+        rssis_len: usize,
+        snrs: *const i8,
+        snrs_len: usize,
+        out: *mut u8,
+        out_len: usize,
+        length: *mut u64,
+    ) -> u8;
+
+    // Signing keys.
+    pub(crate) fn mesh_sign(
+        kind: u8,
+        payload_type: u8,
+        hop_count: u8,
+        has_mic: bool,
+        mic: u32,
+        relay_id: u32,
+        uplink_id: u16,
+        dr: u8,
+        rssi: i16,
+        snr: i8,
+        channel: u8,
+        frequency: u32,
+        tx_power: u8,
+        delay: u8,
+        timestamp: u32,
+        body: u8,
+        start: u64,
+        len: u64,
+        key: *const [u8; 16],
+        frame: *const u8,
+        frame_len: usize,
+        work: *const u8,
+        work_len: usize,
+        kinds: *const [u8; 2],
+        kinds_len: usize,
+        spans: *const [u32; 2],
+        spans_len: usize,
+        ids: *const u32,
+        ids_len: usize,
+        rssis: *const i16,
+        rssis_len: usize,
+        snrs: *const i8,
+        snrs_len: usize,
+        made: *mut u32,
+    ) -> u8;
+    pub(crate) fn mesh_validate(
+        kind: u8,
+        payload_type: u8,
+        hop_count: u8,
+        has_mic: bool,
+        mic: u32,
+        relay_id: u32,
+        uplink_id: u16,
+        dr: u8,
+        rssi: i16,
+        snr: i8,
+        channel: u8,
+        frequency: u32,
+        tx_power: u8,
+        delay: u8,
+        timestamp: u32,
+        body: u8,
+        start: u64,
+        len: u64,
+        key: *const [u8; 16],
+        frame: *const u8,
+        frame_len: usize,
+        work: *const u8,
+        work_len: usize,
+        kinds: *const [u8; 2],
+        kinds_len: usize,
+        spans: *const [u32; 2],
+        spans_len: usize,
+        ids: *const u32,
+        ids_len: usize,
+        rssis: *const i16,
+        rssis_len: usize,
+        snrs: *const i8,
+        snrs_len: usize,
+        valid: *mut u8,
+    ) -> u8;
+    pub(crate) fn mesh_set_hop_count(key: *const [u8; 16], frame: *mut u8, n: usize, hop_count: u8) -> u8;
+
+    // Encryption keys.
+    pub(crate) fn mesh_seal(
+        kind: u8,
+        payload_type: u8,
+        hop_count: u8,
+        has_mic: bool,
+        mic: u32,
+        relay_id: u32,
+        uplink_id: u16,
+        dr: u8,
+        rssi: i16,
+        snr: i8,
+        channel: u8,
+        frequency: u32,
+        tx_power: u8,
+        delay: u8,
+        timestamp: u32,
+        body: u8,
+        start: u64,
+        len: u64,
+        key: *const [u8; 16],
+        frame: *const u8,
+        frame_len: usize,
+        work: *const u8,
+        work_len: usize,
+        kinds: *const [u8; 2],
+        kinds_len: usize,
+        spans: *const [u32; 2],
+        spans_len: usize,
+        ids: *const u32,
+        ids_len: usize,
+        rssis: *const i16,
+        rssis_len: usize,
+        snrs: *const i8,
+        snrs_len: usize,
+        out: *mut u8,
+        out_len: usize,
+        place: *mut [u64; 3],
+    ) -> u8;
+    pub(crate) fn mesh_decrypt(
+        kind: u8,
+        payload_type: u8,
+        hop_count: u8,
+        has_mic: bool,
+        mic: u32,
+        relay_id: u32,
+        uplink_id: u16,
+        dr: u8,
+        rssi: i16,
+        snr: i8,
+        channel: u8,
+        frequency: u32,
+        tx_power: u8,
+        delay: u8,
+        timestamp: u32,
+        body: u8,
+        start: u64,
+        len: u64,
+        key: *const [u8; 16],
+        frame: *const u8,
+        frame_len: usize,
+        work: *mut u8,
+        work_len: usize,
+        counts: *mut [u64; 6],
+        place: *mut [u64; 3],
+    ) -> u8;
+    pub(crate) fn mesh_decode(
+        kind: u8,
+        payload_type: u8,
+        hop_count: u8,
+        has_mic: bool,
+        mic: u32,
+        relay_id: u32,
+        uplink_id: u16,
+        dr: u8,
+        rssi: i16,
+        snr: i8,
+        channel: u8,
+        frequency: u32,
+        tx_power: u8,
+        delay: u8,
+        timestamp: u32,
+        body: u8,
+        start: u64,
+        len: u64,
+        frame: *const u8,
+        frame_len: usize,
+        work: *const u8,
+        work_len: usize,
+        counts: *mut [u64; 6],
+        place: *mut [u64; 3],
+    ) -> u8;
+
+    // Items of a clear payload.
+    pub(crate) fn mesh_item(is_event: bool, payload: *const u8, n: usize, at: u64, item: *mut [u64; 6]) -> u8;
+    pub(crate) fn mesh_count(is_event: bool, payload: *const u8, n: usize, counts: *mut [u64; 6]) -> u8;
+    pub(crate) fn mesh_stream(
+        key: *const [u8; 16],
+        is_command: bool,
+        relay_id: u32,
+        timestamp: u32,
+        payload: *const u8,
+        n: usize,
+        out: *mut u8,
+        out_len: usize,
+    ) -> u8;
+
+    // Heartbeats.
+    pub(crate) fn mesh_heartbeat(value: *const u8, n: usize, places: u64, entries: *mut u64) -> u8;
+    pub(crate) fn mesh_heartbeat_entry(value: *const u8, n: usize, i: u64, relay_id: *mut u32, rssi: *mut i16, snr: *mut i8) -> u8;
+    pub(crate) fn mesh_heartbeat_write(
+        ids: *const u32,
+        ids_len: usize,
+        rssis: *const i16,
+        rssis_len: usize,
+        snrs: *const i8,
+        snrs_len: usize,
+        out: *mut u8,
+        out_len: usize,
+        length: *mut u64,
+    ) -> u8;
+
+    // Fields alone.
+    pub(crate) fn mesh_type(n: u8) -> u8;
+    pub(crate) fn mesh_header_read(b: u8, header: *mut [u8; 2]) -> u8;
+    pub(crate) fn mesh_header_write(type_: u8, hop_count: u8, b: *mut u8) -> u8;
+    pub(crate) fn mesh_uplink_metadata_read(b: *const [u8; 5], numbers: *mut [u64; 3], rssi: *mut i16, snr: *mut i8);
+    pub(crate) fn mesh_uplink_metadata_write(uplink_id: u16, dr: u8, rssi: i16, snr: i8, channel: u8, b: *mut [u8; 5]) -> u8;
+    pub(crate) fn mesh_downlink_metadata_read(b: *const [u8; 6], numbers: *mut [u64; 5]);
+    pub(crate) fn mesh_downlink_metadata_write(uplink_id: u16, dr: u8, frequency: u32, tx_power: u8, delay: u8, b: *mut [u8; 6]) -> u8;
+    pub(crate) fn mesh_frequency_read(b: *const u8, n: usize, hertz: *mut u32) -> u8;
+    pub(crate) fn mesh_frequency_write(hertz: u32, b: *mut [u8; 3]) -> u8;
+    pub(crate) fn mesh_path_read(b: *const [u8; 6], relay_id: *mut u32, rssi: *mut i16, snr: *mut i8);
+    pub(crate) fn mesh_path_write(relay_id: u32, rssi: i16, snr: i8, b: *mut [u8; 6]) -> u8;
+
+    // Keys, cipher and MIC.
+    pub(crate) fn mesh_key(b: *const u8, n: usize, key: *mut [u8; 16]) -> u8;
+    pub(crate) fn mesh_key_of_text(text: *const u8, n: usize, key: *mut [u8; 16]) -> u8;
+    pub(crate) fn mesh_key_text(key: *const [u8; 16], out: *mut u8, out_len: usize) -> u8;
+    pub(crate) fn mesh_null_key(key: *mut [u8; 16]);
+    pub(crate) fn mesh_signing_key(root: *const [u8; 16], key: *mut [u8; 16]);
+    pub(crate) fn mesh_encryption_key(root: *const [u8; 16], key: *mut [u8; 16]);
+    pub(crate) fn mesh_encrypt_block(key: *const [u8; 16], block: *mut [u8; 16]);
+    pub(crate) fn mesh_prepare(key: *const [u8; 16], cipher: *mut [u32; 300]);
+    pub(crate) fn mesh_encipher(cipher: *const [u32; 300], block: *mut [u8; 16]);
+    pub(crate) fn mesh_cmac(key: *const [u8; 16], message: *const u8, n: usize, out: *mut [u8; 16]);
+    pub(crate) fn mesh_mac(cipher: *const [u32; 300], message: *const u8, n: usize, out: *mut [u8; 16]);
+
+    // The duplicate record and the cache.
+    pub(crate) fn mesh_record(
+        kind: u8,
+        payload_type: u8,
+        hop_count: u8,
+        has_mic: bool,
+        mic: u32,
+        relay_id: u32,
+        uplink_id: u16,
+        dr: u8,
+        rssi: i16,
+        snr: i8,
+        channel: u8,
+        frequency: u32,
+        tx_power: u8,
+        delay: u8,
+        timestamp: u32,
+        body: u8,
+        start: u64,
+        len: u64,
+        known: *mut [u64; 4],
+    ) -> u8;
+    pub(crate) fn mesh_cache_clear(words: *mut [u32; 195], size: u32) -> u8;
+    pub(crate) fn mesh_cache_add(words: *mut [u32; 195], type_: u8, uplink_id: u16, timestamp: u32, relay_id: u32, is_new: *mut u8) -> u8;
+
+    // What mesh-dump prints.
+    pub(crate) fn mesh_dump_line(line: *const u8, n: usize, out: *mut u8, out_len: usize, length: *mut u64) -> u8;
+    pub(crate) fn mesh_dump_frame(frame: *const u8, n: usize, out: *mut u8, out_len: usize, length: *mut u64) -> u8;
+}

@@ -1,0 +1,496 @@
+//! The crate's own shapes at their limits: what is refused, with which refusal, and that it changed nothing.
+mod common;
+
+use common::{hex, root};
+use lemikanto::*;
+
+const BEFORE: u8 = 0xa5;
+
+fn uplink(phy_payload: &[u8]) -> MeshPacket<'_> {
+    MeshPacket {
+        mhdr: Header { payload_type: PayloadType::Uplink, hop_count: 1 },
+        payload: Payload::Uplink(UplinkPayload {
+            metadata: UplinkMetadata { uplink_id: 291, dr: 5, rssi: -80, snr: 7, channel: 2 },
+            relay_id: RelayId([10, 11, 12, 13]),
+            phy_payload,
+        }),
+        mic: Some([1, 2, 3, 4]),
+    }
+}
+
+fn downlink(phy_payload: &[u8]) -> MeshPacket<'_> {
+    MeshPacket {
+        mhdr: Header { payload_type: PayloadType::Downlink, hop_count: 1 },
+        payload: Payload::Downlink(DownlinkPayload {
+            metadata: DownlinkMetadata { uplink_id: 291, dr: 5, frequency: 868_100_000, tx_power: 3, delay: 1 },
+            relay_id: RelayId([10, 11, 12, 13]),
+            phy_payload,
+        }),
+        mic: Some([1, 2, 3, 4]),
+    }
+}
+
+fn event(events: Body<'_, Item>) -> MeshPacket<'_> {
+    MeshPacket {
+        mhdr: Header { payload_type: PayloadType::Event, hop_count: 1 },
+        payload: Payload::Event(EventPayload { timestamp: 60, relay_id: RelayId([10, 11, 12, 13]), events }),
+        mic: Some([1, 2, 3, 4]),
+    }
+}
+
+fn command(commands: Body<'_, Command>) -> MeshPacket<'_> {
+    MeshPacket {
+        mhdr: Header { payload_type: PayloadType::Command, hop_count: 1 },
+        payload: Payload::Command(CommandPayload { timestamp: 60, relay_id: RelayId([10, 11, 12, 13]), commands }),
+        mic: Some([1, 2, 3, 4]),
+    }
+}
+
+/// What every call that lays a packet out answers of one that is refused; none of them changes the packet or an output.
+fn refused(packet: &MeshPacket, number: u8) {
+    let refusal = Refusal::from_number(number).expect("a number of document 01");
+    let mut out = [BEFORE; 8200];
+    assert_eq!(packet.write(&mut out), Err(refusal));
+    assert_eq!(packet.to_vec(), Err(refusal));
+    assert_eq!(Packet::Mesh(packet.clone()).write(&mut out), Err(refusal));
+    assert_eq!(Packet::Mesh(packet.clone()).to_vec(), Err(refusal));
+    let mut signed = packet.clone();
+    assert_eq!(signed.set_mic(&root()), Err(refusal));
+    assert_eq!(signed, *packet);
+    assert_eq!(packet.validate_mic(&root()), Err(refusal));
+    assert_eq!(MeshPacket { mic: None, ..packet.clone() }.validate_mic(&root()), Err(Refusal::MicMissing));
+    assert!(out.iter().all(|b| *b == BEFORE));
+}
+
+#[test]
+fn hops() {
+    for packet in [uplink(&[]), downlink(&[]), event(Body::Empty), command(Body::Empty)] {
+        for (hop_count, number) in [(0, 6), (9, 7), (255, 7)] {
+            refused(&MeshPacket { mhdr: Header { hop_count, ..packet.mhdr }, ..packet.clone() }, number);
+        }
+        for hop_count in [1, 8] {
+            let packet = MeshPacket { mhdr: Header { hop_count, ..packet.mhdr }, ..packet.clone() };
+            let frame = packet.to_vec().unwrap();
+            assert_eq!(MeshPacket::from_slice(&frame), Ok(packet));
+        }
+        assert_eq!(MeshPacket { mic: None, ..packet.clone() }.to_vec(), Err(Refusal::MicMissing));
+    }
+    for (hop_count, number) in [(0, 6), (9, 7)] {
+        let header = Header { payload_type: PayloadType::Event, hop_count };
+        assert_eq!(header.to_byte().map_err(Refusal::number), Err(number));
+    }
+    for n in 0..=255 {
+        assert_eq!(PayloadType::from_byte(n).map(PayloadType::to_byte), if n < 4 { Ok(n) } else { Err(Refusal::TypeLarge) });
+        assert_eq!(Header::from_byte(n).and_then(Header::to_byte), if n >= 0xe0 { Ok(n) } else { Err(Refusal::NotMesh) });
+    }
+}
+
+#[test]
+fn uplink_fields() {
+    let with = |change: fn(&mut UplinkMetadata)| {
+        let mut packet = uplink(&[1, 2, 3]);
+        if let Payload::Uplink(p) = &mut packet.payload {
+            change(&mut p.metadata);
+        }
+        packet
+    };
+    for (number, change) in [
+        (8, (|m| m.uplink_id = 4096) as fn(&mut UplinkMetadata)),
+        (9, |m| m.dr = 16),
+        (10, |m| m.rssi = 1),
+        (11, |m| m.rssi = -256),
+        (12, |m| m.snr = -33),
+        (13, |m| m.snr = 32),
+    ] {
+        let packet = with(change);
+        refused(&packet, number);
+        let Payload::Uplink(p) = &packet.payload else { unreachable!() };
+        assert_eq!(p.to_vec().map_err(Refusal::number), Err(number));
+        assert_eq!(p.metadata.to_bytes().map_err(Refusal::number), Err(number));
+    }
+    let most = with(|m| *m = UplinkMetadata { uplink_id: 4095, dr: 15, rssi: -255, snr: -32, channel: 255 });
+    assert_eq!(MeshPacket::from_slice(&most.to_vec().unwrap()), Ok(most.clone()));
+}
+
+#[test]
+fn downlink_fields() {
+    for (number, change) in [
+        (8, (|m| m.uplink_id = 4096) as fn(&mut DownlinkMetadata)),
+        (9, |m| m.dr = 16),
+        (14, |m| m.delay = 0),
+        (15, |m| m.tx_power = 16),
+        (16, |m| m.delay = 17),
+        (17, |m| m.frequency = 1_677_721_600),
+        (18, |m| m.frequency = 868_100_001),
+    ] {
+        let mut packet = downlink(&[1, 2, 3]);
+        if let Payload::Downlink(p) = &mut packet.payload {
+            change(&mut p.metadata);
+            assert_eq!(p.to_vec().map_err(Refusal::number), Err(number));
+            assert_eq!(p.metadata.to_bytes().map_err(Refusal::number), Err(number));
+        }
+        refused(&packet, number);
+    }
+}
+
+#[test]
+fn frames_at_the_most() {
+    let long = vec![7; 8193];
+    for (most, make) in [(8178, uplink as fn(&[u8]) -> MeshPacket<'_>), (8177, downlink)] {
+        refused(&make(&long[..most + 1]), 5);
+        let packet = make(&long[..most]);
+        let mut out = [BEFORE; 8193];
+        assert_eq!(packet.write(&mut out[..8191]), Err(Refusal::OutputShort));
+        assert_eq!(out, [BEFORE; 8193]);
+        assert_eq!(packet.write(&mut out), Ok(8192));
+        assert_eq!(out[8192], BEFORE);
+        assert_eq!(MeshPacket::from_slice(&out[..8192]), Ok(packet));
+        assert_eq!(MeshPacket::from_slice(&out), Err(Refusal::FrameLong));
+        let body = &out[1..8189];
+        let kind = PayloadType::from_byte((out[0] >> 3) & 3).unwrap();
+        let read = match kind {
+            PayloadType::Uplink => UplinkPayload::from_slice(body).map(|_| ()),
+            _ => DownlinkPayload::from_slice(body).map(|_| ()),
+        };
+        assert_eq!(read, Err(Refusal::FrameLong));
+    }
+    for make in [|b| event(Body::Sealed(b)), |b| command(Body::Sealed(b)), |b| event(Body::Open(b)), |b| command(Body::Open(b))]
+        as [fn(&[u8]) -> MeshPacket<'_>; 4]
+    {
+        // Open runs are written as the items they keep: here all but the last byte.
+        refused(&make(&vec![1; 8181]), 5);
+        assert!(make(&long[..8179]).to_vec().is_ok());
+    }
+    assert_eq!(Packet::Lora(&long).to_vec(), Err(Refusal::FrameLong));
+    assert_eq!(Packet::Lora(&long[..8192]).to_vec().unwrap(), long[..8192]);
+    assert_eq!(Packet::Lora(&[]).to_vec(), Ok(vec![]));
+    assert_eq!(Packet::Lora(&[1, 2]).write(&mut [0]), Err(Refusal::OutputShort));
+    assert_eq!(Packet::from_slice(&long), Err(Refusal::FrameLong));
+    assert_eq!(Packet::from_slice(&[]), Err(Refusal::FrameEmpty));
+    assert_eq!(Packet::from_slice(&[0xe0]), Err(Refusal::FrameShort));
+    assert_eq!(MeshPacket::from_slice(&[]), Err(Refusal::FrameEmpty));
+    assert_eq!(MeshPacket::from_slice(&long[..100]), Err(Refusal::NotMesh));
+    assert_eq!(UplinkPayload::from_slice(&long[..8]), Err(Refusal::BodyShort));
+    assert_eq!(DownlinkPayload::from_slice(&long[..9]), Err(Refusal::BodyShort));
+    assert_eq!(EventPayload::from_slice(&long[..7]), Err(Refusal::BodyShort));
+    assert_eq!(CommandPayload::from_slice(&long[..7]), Err(Refusal::BodyShort));
+    assert_eq!(EventPayload::from_slice(&long[..8]).unwrap().events, Body::Empty);
+    assert_eq!(CommandPayload::from_slice(&long[..8]).unwrap().commands, Body::Empty);
+    for (first, least) in [(0xe0, 14), (0xe8, 15), (0xf0, 13), (0xf8, 13)] {
+        let mut b = vec![0; least];
+        b[0] = first;
+        assert_eq!(Packet::from_slice(&b[..least - 1]), Err(Refusal::BodyShort));
+        assert!(matches!(Packet::from_slice(&b), Ok(Packet::Mesh(_))));
+    }
+}
+
+#[test]
+fn composed_items() {
+    let entry = RelayPath { relay_id: RelayId([1, 2, 3, 4]), rssi: -1, snr: -1 };
+    let items = |list: Vec<Item>| event(Body::Items(list));
+    refused(&items(vec![Item::Heartbeat(vec![entry; 43])]), 19);
+    refused(&items(vec![Item::Proprietary(1, vec![0; 256])]), 19);
+    refused(&items(vec![Item::Proprietary(1, vec![0; 70_000])]), 19);
+    refused(&command(Body::Items(vec![Command::Proprietary(0, vec![0; 256])])), 19);
+    refused(&items(vec![Item::Proprietary(0, vec![0; 5])]), 20);
+    for (number, rssi, snr) in [(10, 1, 0), (11, -256, 0), (12, 0, -33), (13, 0, 32)] {
+        let bad = RelayPath { rssi, snr, ..entry };
+        assert_eq!(bad.to_bytes().map_err(Refusal::number), Err(number));
+        // Judged before any length, wherever it stands.
+        let mut path = vec![entry; 60];
+        path[59] = bad;
+        refused(&items(vec![Item::Proprietary(1, vec![0; 256]), Item::Heartbeat(path)]), number);
+    }
+    let full = Item::Proprietary(1, vec![9; 255]);
+    let mut list = vec![full.clone(); 31];
+    list.push(Item::Proprietary(2, vec![9; 210]));
+    let frame = items(list.clone()).to_vec().unwrap();
+    assert_eq!(frame.len(), 8192);
+    list[31] = Item::Proprietary(2, vec![9; 211]);
+    refused(&items(list.clone()), 5);
+    let mut out = [BEFORE; 8200];
+    assert_eq!(items(list).encrypt(&root(), &mut out), Err(Refusal::FrameLong));
+    assert_eq!(out, [BEFORE; 8200]);
+
+    let beat = items(vec![Item::Heartbeat(vec![entry; 42]), full, Item::Proprietary(255, vec![])]);
+    let mut tried = beat.clone();
+    let mut short = [BEFORE; 512];
+    assert_eq!(tried.encrypt(&root(), &mut short), Err(Refusal::OutputShort));
+    assert_eq!(tried, beat);
+    assert_eq!(short, [BEFORE; 512]);
+    let mut packet = beat.clone();
+    let mut exact = [BEFORE; 513];
+    assert_eq!(packet.encrypt(&root(), &mut exact), Ok(()));
+    let frame = packet.to_vec().unwrap();
+    let mut work = [BEFORE; 514];
+    let mut read = MeshPacket::from_slice(&frame).unwrap();
+    let as_read = read.clone();
+    let mut small = [BEFORE; 512];
+    assert_eq!(read.decrypt(&root(), &mut small), Err(Refusal::OutputShort));
+    assert_eq!(read, as_read);
+    let opening = read.decrypt(&root(), &mut work).unwrap();
+    assert_eq!(opening, Opening { kept: 3, kept_bytes: 513, clean: true, ..Opening::default() });
+    let mut other = [BEFORE; 600];
+    assert_eq!(read.decrypt(&root(), &mut other), Err(Refusal::OpenMany));
+    assert_eq!(read.decode(), Ok(None));
+    assert_eq!(read.to_vec().unwrap()[1..522], beat.to_vec().unwrap()[1..522]);
+    let Payload::Event(e) = &read.payload else { unreachable!() };
+    let found: Vec<Item> = e.items().unwrap().map(|f| if let Found::Kept(k) = f { k.to_item() } else { panic!() }).collect();
+    let Payload::Event(b) = &beat.payload else { unreachable!() };
+    assert_eq!(Body::Items(found), b.events);
+    assert_eq!(small, [BEFORE; 512]);
+    assert_eq!(other, [BEFORE; 600]);
+    assert_eq!(work[513], BEFORE);
+}
+
+#[test]
+fn open_already() {
+    let mut work = [BEFORE; 100];
+    let mut one = event(Body::Open(&[1, 0]));
+    assert_eq!(one.clone().decrypt(&root(), &mut work), Err(Refusal::OpenOne));
+    assert_eq!(work, [BEFORE; 100]);
+    let mut two = command(Body::Open(&[1, 0, 2, 0, 3]));
+    let mut work = [BEFORE; 100];
+    assert_eq!(two.decrypt(&root(), &mut work), Err(Refusal::OpenMany));
+    let mut items = command(Body::Items(vec![Command::Proprietary(1, vec![])]));
+    let mut work = [BEFORE; 100];
+    assert_eq!(items.decrypt(&root(), &mut work), Err(Refusal::OpenOne));
+    for packet in [&mut one, &mut two, &mut items] {
+        assert_eq!(packet.decode(), Ok(None));
+    }
+    // What keeps nothing counts as empty, and stands for nothing from then on.
+    let clean = Opening { clean: true, ..Opening::default() };
+    for mut packet in [event(Body::Open(&[1])), event(Body::Items(vec![])), event(Body::Sealed(&[])), event(Body::Empty)] {
+        let mut sealed = packet.clone();
+        assert_eq!(sealed.encrypt(&root(), &mut []), Ok(()));
+        assert_eq!(sealed, event(Body::Empty));
+        assert_eq!(packet.decode(), Ok(Some(clean)));
+        assert_eq!(packet.decrypt(&root(), &mut []), Ok(clean));
+        assert_eq!(packet, event(Body::Empty));
+    }
+    for packet in [uplink(&[1]), downlink(&[1])] {
+        let mut same = packet.clone();
+        assert_eq!(same.encrypt(&root(), &mut []), Ok(()));
+        assert_eq!(same.decrypt(&root(), &mut []), Ok(clean));
+        assert_eq!(same.decode(), Ok(Some(clean)));
+        assert_eq!(same, packet);
+    }
+    // Sealing what is sealed opens it, and it is still marked sealed.
+    let (mut first, mut second) = ([0; 3], [0; 3]);
+    let mut packet = event(Body::Sealed(&[1, 1, 5]));
+    packet.encrypt(&root(), &mut first).unwrap();
+    packet.encrypt(&root(), &mut second).unwrap();
+    assert_eq!(packet, event(Body::Sealed(&[1, 1, 5])));
+    let long = [1; 8180];
+    let mut work = [0; 9000];
+    assert_eq!(event(Body::Sealed(&long)).decrypt(&root(), &mut work), Err(Refusal::FrameLong));
+    assert_eq!(event(Body::Sealed(&long)).decode(), Err(Refusal::FrameLong));
+    assert_eq!(event(Body::Open(&long)).decode(), Ok(None));
+}
+
+#[test]
+fn ranges_of_one_buffer() {
+    // Payload and key are parts of one buffer that overlap; the output is another.
+    let one: [u8; 64] = std::array::from_fn(|i| i as u8);
+    let key = Key::from_slice(&one[8..24]).unwrap();
+    let apart = one[4..30].to_vec();
+    let mut shared = uplink(&one[4..30]);
+    let mut copied = uplink(&apart);
+    shared.set_mic(&key).unwrap();
+    copied.set_mic(&key).unwrap();
+    assert_eq!(shared, copied);
+    assert_eq!(shared.to_vec(), copied.to_vec());
+    // A packet inside a packet, over the same bytes.
+    let outer = shared.to_vec().unwrap();
+    let p = MeshPacket::from_slice(&outer).unwrap();
+    let Payload::Uplink(u) = &p.payload else { unreachable!() };
+    assert_eq!(u.phy_payload, &one[4..30]);
+    assert_eq!(Packet::from_slice(u.phy_payload), Ok(Packet::Lora(&one[4..30])));
+    // Items over a part of the payload that other items are read from.
+    let payload = [1, 4, 2, 2, 7, 7];
+    assert_eq!(Items::of_command(&payload).unwrap().count(), 1);
+    assert_eq!(Items::of_command(&payload[2..]).unwrap().next(), Some(Found::Kept(Kept::Proprietary(2, &[7, 7]))));
+}
+
+#[test]
+fn items_and_heartbeats() {
+    let long = [1; 8180];
+    assert_eq!(Items::of_event(&long).map(|_| ()), Err(Refusal::FrameLong));
+    assert_eq!(Items::of_command(&long).map(|_| ()), Err(Refusal::FrameLong));
+    assert_eq!(Items::of_event(&long[..8179]).unwrap().count(), 2727);
+    assert_eq!(Items::of_event(&[]).unwrap().next(), None);
+    let mut cut = Items::of_event(&[5]).unwrap();
+    assert_eq!(cut.next(), Some(Found::Cut(&[5])));
+    assert_eq!(cut.next(), None);
+    assert_eq!(cut.next(), None);
+
+    let value: Vec<u8> = (0..258).map(|i| i as u8).collect();
+    assert_eq!(Heartbeat::from_slice(&value), Err(Refusal::ItemLong));
+    assert_eq!(Heartbeat::from_slice(&value[..256]), Err(Refusal::ItemLong));
+    assert_eq!(Heartbeat::from_slice(&value[..255]), Err(Refusal::HeartbeatLength));
+    let beat = Heartbeat::from_slice(&value[..252]).unwrap();
+    assert_eq!(beat.len(), 42);
+    assert_eq!(beat.entry(42), Err(Refusal::Outside));
+    assert_eq!(beat.entry(usize::MAX), Err(Refusal::Outside));
+    assert_eq!(beat.entry(1), Ok(RelayPath::from_bytes([6, 7, 8, 9, 10, 11])));
+    let mut list = [RelayPath::default(); 43];
+    assert_eq!(beat.read_into(&mut list[..41]), Err(Refusal::OutputShort));
+    assert_eq!(list, [RelayPath::default(); 43]);
+    assert_eq!(beat.read_into(&mut list), Ok(42));
+    assert_eq!(list[..42], beat.relay_path());
+    assert_eq!(list[42], RelayPath::default());
+    let none = Heartbeat::from_slice(&[]).unwrap();
+    assert!(none.is_empty());
+    assert_eq!(none.read_into(&mut []), Ok(0));
+    assert_eq!(none.as_slice(), []);
+}
+
+#[test]
+fn heartbeats_written() {
+    let path = [RelayPath { relay_id: RelayId([1, 2, 3, 4]), rssi: -255, snr: -1 }; 43];
+    let mut out = [BEFORE; 258];
+    assert_eq!(write_heartbeat(&path, &mut out), Err(Refusal::ItemLong));
+    assert_eq!(write_heartbeat(&path[..42], &mut out[..251]), Err(Refusal::OutputShort));
+    assert_eq!(out, [BEFORE; 258]);
+    assert_eq!(write_heartbeat(&path[..42], &mut out), Ok(252));
+    assert_eq!(out[252..], [BEFORE; 6]);
+    assert_eq!(Heartbeat::from_slice(&out[..252]).unwrap().relay_path(), path[..42]);
+    assert_eq!(heartbeat_to_vec(&path[..1]), Ok(vec![1, 2, 3, 4, 255, 0x3f]));
+    assert_eq!(heartbeat_to_vec(&[]), Ok(vec![]));
+    let bad = RelayPath { rssi: 1, ..path[0] };
+    assert_eq!(write_heartbeat(&[path[0], bad], &mut []), Err(Refusal::RssiLarge));
+}
+
+#[test]
+fn key_texts() {
+    assert_eq!(Key::from_slice(&[0; 15]), Err(Refusal::KeyLength));
+    assert_eq!(Key::from_slice(&[0; 17]), Err(Refusal::KeyLength));
+    assert_eq!(Key::from_slice(&[]), Err(Refusal::KeyLength));
+    assert_eq!(Key::from_slice(&[0; 16]), Ok(Key::null()));
+    assert_eq!(Key::default(), Key::from_bytes([0; 16]));
+    assert_eq!("".parse::<Key>(), Err(Refusal::KeyLength));
+    assert_eq!("g".repeat(31).parse::<Key>(), Err(Refusal::KeyLength));
+    assert_eq!("g".repeat(32).parse::<Key>(), Err(Refusal::KeyDigit));
+    assert_eq!("é".repeat(16).parse::<Key>(), Err(Refusal::KeyDigit));
+    let key: Key = "000102030405060708090A0B0c0D0e0f".parse().unwrap();
+    assert_eq!(key, root());
+    assert_eq!(key.to_string(), "000102030405060708090a0b0c0d0e0f");
+    assert_eq!(key.to_vec(), key.to_bytes());
+    let mut out = [BEFORE; 33];
+    assert_eq!(key.write_text(&mut out[..31]), Err(Refusal::OutputShort));
+    assert_eq!(out, [BEFORE; 33]);
+    assert_eq!(key.write_text(&mut out), Ok(32));
+    assert_eq!(out[32], BEFORE);
+}
+
+#[test]
+fn streams() {
+    let (key, id) = (root(), RelayId([1, 2, 3, 4]));
+    let clear = [7; 8180];
+    assert_eq!(encrypt_events_commands(&key, true, id, 1, &clear), Err(Refusal::FrameLong));
+    let mut out = [BEFORE; 8180];
+    assert_eq!(encrypt_events_commands_into(&key, true, id, 1, &clear[..100], &mut out[..99]), Err(Refusal::OutputShort));
+    assert_eq!(out, [BEFORE; 8180]);
+    assert_eq!(encrypt_events_commands_into(&key, true, id, 1, &clear[..8179], &mut out), Ok(8179));
+    assert_eq!(out[8179], BEFORE);
+    assert_eq!(encrypt_events_commands(&key, true, id, 1, &out[..8179]).unwrap(), clear[..8179]);
+    assert_eq!(encrypt_events_commands(&key, true, id, 1, &[]), Ok(vec![]));
+    for (command, id, time) in [(false, id, 1), (true, RelayId([1, 2, 3, 5]), 1), (true, id, 2)] {
+        assert_ne!(encrypt_events_commands(&key, command, id, time, &clear[..16]).unwrap(), out[..16]);
+    }
+}
+
+#[test]
+fn frequencies() {
+    for n in [0, 1, 2, 4, 100] {
+        assert_eq!(decode_freq(&vec![0; n]), Err(Refusal::FrequencyLength));
+    }
+    assert_eq!(encode_freq(u32::MAX), Err(Refusal::FrequencyLarge));
+    assert_eq!(encode_freq(50), Err(Refusal::FrequencyStep));
+}
+
+#[test]
+fn caches() {
+    for size in [0, 65, usize::MAX, 1 << 32, (1 << 32) + 1] {
+        assert_eq!(Cache::new(size), Err(Refusal::CacheSize));
+    }
+    for size in [1, 64] {
+        let mut cache = Cache::new(size).unwrap();
+        let record = |n: usize| Record { p_type: PayloadType::Event, uplink_id: 0, timestamp: u32::MAX, relay_id: RelayId::from(n as u32) };
+        for n in 0..200 {
+            assert_eq!(cache.add(&record(n)), Ok(true));
+            let full = cache.clone();
+            assert_eq!(cache.add(&record(n)), Ok(false));
+            assert_eq!(cache.add(&record((n + 1).saturating_sub(size))), Ok(false));
+            assert_eq!(cache, full);
+        }
+        assert_eq!(cache.add(&record(199 - size)), Ok(true));
+    }
+    // Each of the four fields tells records apart, and so does each byte of the id.
+    let record = Record { p_type: PayloadType::Uplink, uplink_id: 1, timestamp: 2, relay_id: RelayId([1, 2, 3, 4]) };
+    let mut cache = Cache::new(64).unwrap();
+    for other in [
+        record,
+        Record { p_type: PayloadType::Downlink, ..record },
+        Record { uplink_id: 2, ..record },
+        Record { timestamp: 3, ..record },
+        Record { relay_id: RelayId([0, 2, 3, 4]), ..record },
+        Record { relay_id: RelayId([1, 0, 3, 4]), ..record },
+        Record { relay_id: RelayId([1, 2, 0, 4]), ..record },
+        Record { relay_id: RelayId([1, 2, 3, 0]), ..record },
+    ] {
+        assert_eq!(cache.add(&other), Ok(true));
+        assert_eq!(cache.add(&other), Ok(false));
+    }
+    assert_eq!(uplink(&[]).record().unwrap().uplink_id, 291);
+    assert_eq!(event(Body::Empty).record().unwrap().timestamp, 60);
+    assert_eq!(command(Body::Empty).record().unwrap().uplink_id, 0);
+}
+
+#[test]
+fn hop_edit() {
+    let key = root();
+    let mut frame = uplink(&[1, 2, 3]).to_vec().unwrap();
+    for (hop_count, number) in [(0, 6), (9, 7), (255, 7)] {
+        let before = frame.clone();
+        assert_eq!(set_hop_count(&mut frame, hop_count, &key).map_err(Refusal::number), Err(number));
+        assert_eq!(frame, before);
+    }
+    for (bad, number) in [(vec![], 1), (vec![0xe0; 8193], 5), (vec![0xe0; 4], 2), (vec![0x40; 20], 3), (vec![0xe0; 13], 4)] {
+        let mut b = bad.clone();
+        assert_eq!(set_hop_count(&mut b, 0, &key).map_err(Refusal::number), Err(number));
+        assert_eq!(b, bad);
+    }
+    for hop_count in 1..=8 {
+        set_hop_count(&mut frame, hop_count, &key).unwrap();
+        let p = MeshPacket::from_slice(&frame).unwrap();
+        assert_eq!((p.mhdr.hop_count, p.validate_mic(&key)), (hop_count, Ok(true)));
+    }
+}
+
+#[test]
+fn dumps() {
+    let text = "[Uplink hop_count: 1, uplink_id: 291, relay_id: 0a0b0c0d, mic: 11223344]";
+    assert_eq!(dump_line_text(b"e012355007020a0b0c0d11223344").unwrap(), text);
+    assert_eq!(dump_frame_text(&hex("e012355007020a0b0c0d11223344")).unwrap(), text);
+    assert_eq!(dump_line_text(b"4").unwrap(), "refused 30");
+    assert_eq!(dump_line_text(b"").unwrap(), "refused 1");
+    let longest = dump_frame_text(&hex("efffff000000ff0a0b0c0dffffffff")).unwrap();
+    assert!(longest.len() <= TEXT_MOST);
+    let mut out = [BEFORE; 80];
+    assert_eq!(dump_line(b"40", &mut out[..5]), Err(Refusal::OutputShort));
+    assert_eq!(dump_frame(&[0x40], &mut out[..5]), Err(Refusal::OutputShort));
+    assert_eq!(out, [BEFORE; 80]);
+    assert_eq!(dump_frame(&[0x40], &mut out), Ok(6));
+    assert_eq!(&out[..7], b"lora 1\xa5");
+}
+
+#[test]
+fn ids() {
+    let id = RelayId([0x0a, 0, 0xc, 0x0d]);
+    assert_eq!(id.to_string(), "0a000c0d");
+    assert_eq!(format!("{id:?}"), "0a000c0d");
+    assert_eq!(RelayId::from(0x0a00_0c0d), id);
+    assert_eq!(RelayId::from([0x0a, 0, 0xc, 0x0d]), id);
+    assert_eq!(event(Body::Empty).payload.relay_id(), RelayId([10, 11, 12, 13]));
+}

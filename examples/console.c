@@ -1,0 +1,160 @@
+/* What a console does with each frame that it receives: it reads the frame, validates it, looks it up, opens it, and finds the relay. The
+ * frames are built in; bindings/rust/examples/console.rs has the same and prints the same. docs/LINKING.md says how to build it. */
+#include <inttypes.h>
+#include <stdio.h>
+#include <string.h>
+
+#include "mesh.h"
+
+/* An uplink, the same over one hop more, a forged one, a sealed event of a heartbeat and another item, a command, a LoRa frame, an uplink of
+ * a relay that is not listed, and what is no frame. They are signed and sealed with the keys that are derived from ROOT. */
+static const char *const FRAMES[] = {
+    "e012355007020a0b0c0d4001020304b2212410",
+    "e112355007020a0b0c0d4001020304e7d64029",
+    "e012455007020a0b0c0d40010203040c68db6a",
+    "f16553f1000a0b0c0ed551e26d3c75b19fa00c339ce33e52d260245db5e612fb",
+    "f86553f13c0a0b0c0d3a8dbdd2f6cdbb",
+    "4011223344",
+    "e012355007020a0b0c1d4001020304fbe54ffc",
+    "e000",
+};
+
+static const char ROOT[] = "000102030405060708090a0b0c0d0e0f";
+
+/* The relays that are known. Ids are the same where all eight digits are. */
+static const struct {
+    uint32_t id;
+    const char *name;
+} RELAYS[] = {{0x0a0b0c0d, "mill"}, {0x0a0b0c0e, "church"}};
+
+struct keys {
+    uint8_t signing[16];
+    uint8_t encryption[16];
+};
+
+enum received { NEW, DUPLICATE, LORA, NOT_VALID, REFUSED };
+
+/* Reads, validates, looks up and opens a frame into packet; what it is known by is in known, what its items are in counts, and of REFUSED the
+ * number in refused. Unless it is NEW, the cache and the work buffer are as they were: a frame that does not validate is neither added nor
+ * opened. */
+static enum received receive(const uint8_t *frame, size_t n, const struct keys *keys, mesh_cache *cache, uint8_t *work, size_t work_len,
+                             mesh_packet *packet, mesh_record_of *known, mesh_counts *counts, uint8_t *refused) {
+    mesh_lent lent = mesh_lent_frame(frame, n);
+    bool valid = false, is_new = false;
+    if ((*refused = mesh_packet_read(packet, frame, n))) return REFUSED;
+    if (packet->kind == MESH_LORA) return LORA;
+    if ((*refused = mesh_packet_validate(packet, keys->signing, &lent, &valid))) return REFUSED;
+    if (!valid) return NOT_VALID;
+    if ((*refused = mesh_packet_record(packet, known))) return REFUSED;
+    /* On a copy, which takes the cache's place once all is done. */
+    mesh_cache seen = *cache;
+    if ((*refused = mesh_cache_see(&seen, known, &is_new))) return REFUSED;
+    if (!is_new) return DUPLICATE;
+    if ((*refused = mesh_packet_decrypt(packet, keys->encryption, frame, n, work, work_len, counts))) return REFUSED;
+    *cache = seen;
+    return NEW;
+}
+
+static void print_relay(uint32_t id) {
+    const char *name = "not listed";
+    for (size_t i = 0; i < sizeof RELAYS / sizeof *RELAYS; i++)
+        if (RELAYS[i].id == id) name = RELAYS[i].name;
+    printf("%08" PRIx32 " (%s)", id, name);
+}
+
+static void print_hex(const uint8_t *b, uint64_t n) {
+    for (uint64_t i = 0; i < n; i++) printf("%02x", b[i]);
+    printf("\n");
+}
+
+static void print_heartbeat(const uint8_t *value, size_t n) {
+    uint64_t entries;
+    printf("  heartbeat\n");
+    if (mesh_heartbeat(value, n, MESH_PATH_MOST, &entries)) return;
+    for (uint64_t i = 0; i < entries; i++) {
+        uint32_t id;
+        int16_t rssi;
+        int8_t snr;
+        if (mesh_heartbeat_entry(value, n, i, &id, &rssi, &snr)) return;
+        printf("    ");
+        print_relay(id);
+        printf(" rssi %d snr %d\n", rssi, snr);
+    }
+}
+
+/* The items of a packet that was opened into work. */
+static void print_items(const mesh_packet *p, const uint8_t *work) {
+    uint64_t at = 0, item[6];
+    if (p->body != MESH_OPEN_IN_WORK) return;
+    const uint8_t *payload = work + p->start;
+    while (mesh_item(p->kind == MESH_EVENT, payload, p->len, at, item) == 0 && item[0] != MESH_END) {
+        const uint8_t *value = payload + item[3];
+        if (item[0] == MESH_SKIPPED) {
+            printf("  skipped: %" PRIu64 " bytes\n", item[4]);
+        } else if (item[0] == MESH_CUT) {
+            printf("  cut: %" PRIu64 " bytes\n", item[4]);
+            return;
+        } else if (item[1] == 1) {
+            print_heartbeat(value, item[4]);
+        } else {
+            printf("  item %" PRIu64 ": ", item[2]);
+            print_hex(value, item[4]);
+        }
+        at = item[5];
+    }
+}
+
+static void print_packet(const mesh_packet *p, const uint8_t *frame, const uint8_t *work) {
+    switch (p->kind) {
+    case MESH_UPLINK:
+        printf("uplink %u from ", p->uplink_id);
+        print_relay(p->relay_id);
+        printf(" rssi %d snr %d: ", p->rssi, p->snr);
+        print_hex(frame + p->start, p->len);
+        break;
+    case MESH_DOWNLINK:
+        printf("downlink %u to ", p->uplink_id);
+        print_relay(p->relay_id);
+        printf(": ");
+        print_hex(frame + p->start, p->len);
+        break;
+    default:
+        printf("%s at %" PRIu32 " %s ", p->kind == MESH_EVENT ? "event" : "command", p->timestamp, p->kind == MESH_EVENT ? "from" : "to");
+        print_relay(p->relay_id);
+        printf("\n");
+        print_items(p, work);
+    }
+}
+
+static unsigned digit(char c) { return c <= '9' ? (unsigned)(c - '0') : (unsigned)(c - 'a' + 10); }
+
+int main(void) {
+    static uint8_t frame[MESH_FRAME_MOST], work[MESH_PAYLOAD_MOST];
+    uint8_t root[16];
+    struct keys keys;
+    mesh_cache cache;
+    if (mesh_key_of_text((const uint8_t *)ROOT, strlen(ROOT), root)) return 1;
+    mesh_signing_key(root, keys.signing);
+    mesh_encryption_key(root, keys.encryption);
+    if (mesh_cache_clear(cache.words, MESH_CACHE_MOST)) return 1;
+    for (size_t i = 0; i < sizeof FRAMES / sizeof *FRAMES; i++) {
+        size_t n = strlen(FRAMES[i]) / 2;
+        for (size_t k = 0; k < n; k++) frame[k] = (uint8_t)(16 * digit(FRAMES[i][2 * k]) + digit(FRAMES[i][2 * k + 1]));
+        mesh_packet packet;
+        mesh_record_of known;
+        mesh_counts counts;
+        uint8_t refused;
+        switch (receive(frame, n, &keys, &cache, work, sizeof work, &packet, &known, &counts, &refused)) {
+        case NEW: print_packet(&packet, frame, work); break;
+        case DUPLICATE:
+            printf("duplicate: ");
+            print_relay(known.relay_id);
+            printf("\n");
+            break;
+        case LORA: printf("lora: %" PRIu64 " bytes\n", packet.len); break;
+        case NOT_VALID: printf("not valid\n"); break;
+        case REFUSED: printf("refused %u\n", refused); break;
+        }
+    }
+    return 0;
+}
