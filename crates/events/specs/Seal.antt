@@ -2,12 +2,13 @@
 use Prim.Native.Nat.{ℕ}
 use mathlib.Core.Bool.{Bool, true, false, not}
 use mathlib.Core.List.{List}
-use Rattle.base.specs.Answers.{Frame}
+use Rattle.base.specs.Answers.{Frame, Answer, value, number}
 use Rattle.base.specs.declared.Written.{Written}
 use Rattle.base.specs.declared.Written.the-variants.{Bytes, Refused}
 use Rattle.fields.specs.Meta.{unlessRefused}
 use Rattle.seal.specs.Stream.{sealedOf}
 use Rattle.bodies.specs.Body.{Lent, bodyOf, bodyRefusal, bodyBytes}
+use Rattle.bodies.specs.Open.{Told, told, wasOpen}
 use Rattle.bodies.specs.declared.open.Opened.{Opened}
 use Rattle.bodies.specs.declared.open.Opened.the-variants.{Opened as Now, AlreadyOpen, Refused as NotOpened}
 use Rattle.events.specs.Read.{asEvent, asCommand}
@@ -57,3 +58,13 @@ abbrev pub commandOpened : CommandPayload → Opened → CommandOpened
 commandOpened p (NotOpened n) = NoCommand n
 commandOpened p AlreadyOpen = CommandOpen
 commandOpened p (Now b o) = CommandNow (record { timestamp = p .timestamp; «relay_id» = p .«relay_id»; commands = b }) o
+
+abbrev pub eventOpenedSays : EventOpened → Answer (Told EventPayload)
+eventOpenedSays (EventNow p o) = value (told p o)
+eventOpenedSays EventOpen = value wasOpen
+eventOpenedSays (NoEvent n) = number n
+
+abbrev pub commandOpenedSays : CommandOpened → Answer (Told CommandPayload)
+commandOpenedSays (CommandNow p o) = value (told p o)
+commandOpenedSays CommandOpen = value wasOpen
+commandOpenedSays (NoCommand n) = number n

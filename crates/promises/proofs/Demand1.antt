@@ -11,8 +11,8 @@ use lib.Dec.{ltb, eqb}
 use lib.ListN.{length, take, drop, drop-of-length-le}
 use lib.Seq.{drop-append-le}
 use Rattle.base.specs.Pick.{pick}
-use Rattle.base.specs.Numbers.{outputShort}
-use Rattle.base.specs.Answers.{Answer, value, number, Frame, bytes, refused, answerOf, outOf, writtenSays, checkedOf, checkedSays}
+use Rattle.base.specs.Numbers.{outputShort, cacheMost}
+use Rattle.base.specs.Answers.{Answer, value, number, Frame, bytes, refused, answerOf, outOf, writtenSays, checkedOf, checkedSays, leftBy}
 use Rattle.base.proofs.Answers.{out-length}
 use Rattle.bodies.specs.Body.{Lent}
 use Rattle.bodies.specs.Open.{openedBy, sealWire, decryptOf, workAfter, Told, openedSays}
@@ -32,7 +32,8 @@ use Rattle.packets.specs.declared.mesh.Payload.{Payload}
 use Rattle.packets.specs.declared.mesh.Payload.the-variants as payload
 use Rattle.packets.specs.declared.mesh.MeshPacket.{MeshPacket}
 use Rattle.heartbeats.specs.Heartbeat.{beatRefusal, beatOf, pathAfter, beatSays}
-use Rattle.cache.specs.Cache.{has, countIn, addedOf, addSays}
+use Rattle.cache.specs.Cache.{has, countIn, addedOf, addSays, packOf}
+use Rattle.packed.specs.Packed.{sizeIn, countIn as countInWords, isBelow, clearAnswer, clearWords, addAnswer, addWords}
 use Rattle.cache.specs.declared.record.PayloadCache.{PayloadCache}
 use Rattle.cache.specs.declared.ring.Cache.{Cache}
 use Rattle.hops.specs.Hops.{leaves}
@@ -145,6 +146,32 @@ hit-by c r false false false p q g e = let z : value true ≡ value false = simp
 
 pub hit-moves-nothing : (c : Cache) (r : PayloadCache) → addSays (addedOf c r .answer) ≡ value false → addedOf c r .cache ≡ c
 hit-moves-nothing c r e = hit-by c r (ltb (c .size) 1) (ltb 64 (c .size)) (has (take (countIn c) (c .slots)) r) refl refl refl e
+
+-- the same of the cache in words
+clear-by : (size : ℕ) (w : List ℕ) (a b : Bool) → ltb size 1 ≡ a → ltb cacheMost size ≡ b → (n : ℕ) → checkedSays (clearAnswer size) size ≡ number n → clearWords size w ≡ w
+unfolding clearAnswer clearWords
+clear-by size w true b p q n e = simp p
+clear-by size w false true p q n e = simp (p, q)
+clear-by size w false false p q n e = absurd (never size n (simp (p, q) at e))
+
+pub refused-clear-changes-nothing : (size : ℕ) (w : List ℕ) (n : ℕ) → checkedSays (clearAnswer size) size ≡ number n → clearWords size w ≡ w
+refused-clear-changes-nothing size w n e = clear-by size w (ltb size 1) (ltb cacheMost size) refl refl n e
+
+words-by : (w : List ℕ) (r : PayloadCache) (a b h : Bool) → ltb (sizeIn w) 1 ≡ a → ltb cacheMost (sizeIn w) ≡ b → isBelow w (packOf r) (countInWords w) ≡ h
+    → (n : ℕ) → addSays (addAnswer w r) ≡ number n → addWords w r ≡ w
+unfolding addAnswer addWords
+words-by w r true b h p q g n e = simp p
+words-by w r false true h p q g n e = simp (p, q)
+words-by w r false false true p q g n e = simp (p, q, g)
+words-by w r false false false p q g n e = absurd (never true n (simp (p, q, g) at e))
+
+pub refused-add-changes-no-word : (w : List ℕ) (r : PayloadCache) (n : ℕ) → addSays (addAnswer w r) ≡ number n → addWords w r ≡ w
+refused-add-changes-no-word w r n e = words-by w r (ltb (sizeIn w) 1) (ltb cacheMost (sizeIn w)) (isBelow w (packOf r) (countInWords w)) refl refl refl n e
+
+-- ---- what a call stores in a lent place
+
+pub refused-stores-nothing : {A : Type 0} → {B : Type 0} → (f : A → B) (old : B) (x : Answer A) (n : ℕ) → x ≡ number n → leftBy f old x ≡ old
+refused-stores-nothing f old x n e = ap (leftBy f old) e
 
 -- ---- sealing, into the lent output
 

@@ -100,7 +100,7 @@ module _ (l : Lent) (w : List ℕ) (p : MeshPacket) (written : meshFrame l p ≡
       × (runBytes w (at 10 (runBytes (l .frame) (u .«phy_payload»))) ≡ runBytes (l .frame) (u .«phy_payload»))
   uplink-written-then-read = uplink-back l w p written mic
 
-  -- a downlink's frequency in the 2.4 GHz band is heard in whole steps of 200 Hz, as `heard` says
+  -- a downlink's frequency is heard as `heard` says: from 2.4 GHz on in whole steps of 200 Hz, and from 1.2 GHz up to there as its double (P6)
   pub downlink-written-then-read : (u : DownlinkPayload) → p .payload ≡ payload.Downlink u → p .mhdr .«payload_type» ≡ Downlink → u .«relay_id» < 4294967296
       → (h : List ℕ) × (downlinkHead u ≡ bytes h)
       × (meshOf w ≡ Mesh (holding p (payload.Downlink (record { metadata = heard (u .metadata) h; «relay_id» = u .«relay_id»; «phy_payload» = at 11 (runBytes (l .frame) (u .«phy_payload»)) }))))

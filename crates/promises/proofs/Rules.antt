@@ -1,8 +1,9 @@
 -- Document 01's rules on fields, keys, items and least lengths, each beside its sentence. Assumes nothing.
-use Prim.Native.Nat.{ℕ, _+_, _-_, _*_, _/_, _%_, _≤_, _<_}
+use Prim.Native.Nat.{ℕ, zero, suc, _+_, _-_, _*_, _/_, _%_, _≤_, _<_}
 use native.Mathlib.Omega.{arith}
-use mathlib.Core.Bool.{Bool, true, false}
-use mathlib.Core.Path.{_≡_, refl, ap, _∙_}
+use mathlib.Core.Bool.{Bool, true, false, not}
+use mathlib.Core.Path.{_≡_, refl, sym, ap, _∙_}
+use lib.Dec.{ltb, eqb}
 use mathlib.Core.List.{List, [], _∷_}
 use lib.IntN.{ℤ, pos, negℤ}
 use lib.ListN.{length, getD, replicate}
@@ -34,7 +35,7 @@ use Rattle.fields.specs.declared.header.HeaderRead.the-variants.{Header}
 use Rattle.fields.specs.declared.signal.SignalByte.the-variants as signal
 use Rattle.heartbeats.specs.Heartbeat.{pathsOf, beatRefusal, beatOf, beatWire, beatSays}
 use Rattle.heartbeats.proofs.Laws.{Ids, beat-back}
-use Rattle.items.specs.Items.{itemAt}
+use Rattle.items.specs.Items.{badBeat, itemAt}
 use Rattle.items.proofs.Laws.{Turn, turn}
 use Rattle.packets.specs.Read.{meshOf, meshSays}
 use Rattle.trips.specs.Which.{leastFrame, numberOf}
@@ -199,6 +200,23 @@ unfolding beatOf beatRefusal
 heartbeat-without-places v places h e l =
     let z : length v % 6 ≤ 0 = omega arith in
     simp (le-ltb 255 (length v) h, le-ltb 0 (length v % 6) z, lt-ltb places (length v / 6) l)
+
+-- an item of tag 0 in an event is skipped exactly where its value is refused for its length
+uneven : (n : ℕ) → badBeat true 0 n ≡ ltb 0 (n % 6)
+unfolding badBeat
+uneven n = go (n % 6)
+  where
+    go : (m : ℕ) → not (eqb m 0) ≡ ltb 0 m
+    go zero = refl
+    go (suc m) = let k : 0 < suc m = omega arith in simp (ne-eqb (suc m) 0 (omega arith), lt-ltb 0 (suc m) k)
+
+pub heartbeat-skipped : (v : List ℕ) (places : ℕ) → length v ≤ 255 → badBeat true 0 (length v) ≡ true → beatSays (beatOf v places) ≡ number heartbeatLength
+unfolding beatOf beatRefusal
+heartbeat-skipped v places h e = simp (le-ltb 255 (length v) h, sym (uneven (length v)) ∙ e)
+
+pub heartbeat-kept : (v : List ℕ) (places : ℕ) → length v ≤ 255 → badBeat true 0 (length v) ≡ false → length v / 6 ≤ places → beatSays (beatOf v places) ≡ value (record { entries = length v / 6 })
+unfolding beatOf beatRefusal
+heartbeat-kept v places h e l = simp (le-ltb 255 (length v) h, sym (uneven (length v)) ∙ e, le-ltb places (length v / 6) l)
 
 pub heartbeat-written-then-read : (ps : List RelayPath) (w : List ℕ) → Ids ps → beatWire ps ≡ bytes w → pathsOf w ≡ ps
 heartbeat-written-then-read ps w h e = beat-back ps w h e .2
