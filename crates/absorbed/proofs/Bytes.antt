@@ -8,7 +8,7 @@ use lib.Dec.{ltb, leb, eqb}
 use lib.ListN.{length, take, drop}
 use Rattle.base.specs.Pick.{pick}
 use Rattle.base.specs.Lists.{Bytes, from, imap, joined}
-use Rattle.base.specs.Answers.{bytes, bytesOr}
+use Rattle.base.specs.Answers.{bytesOr}
 use Rattle.base.proofs.Bytes.{none-lt, cons-lt, append-lt, take-lt, drop-lt, zeros-lt}
 use Rattle.wire.specs.Number.{beBytes}
 use Rattle.wire.specs.Part.{partOf}

@@ -2,8 +2,7 @@
 use mathlib.Core.Path.{refl, sym, ap, _∙_}
 use mathlib.Core.List.{List}
 use Prim.Native.Nat.{ℕ}
-use denote.Ref.{now}
-use Rattle.base.proofs.Outcome.{Fixed, FixedPart}
+use Rattle.base.proofs.Outcome.{Fixed}
 use Rattle.aes128.proofs.Aes128Key.null.Kinds as null-kinds
 use Rattle.aes128.proofs.Aes128Key.null.Reads as null-reads
 use Rattle.aes128.proofs.Aes128Key.from_slice.Kinds as from-slice-kinds

@@ -2,7 +2,7 @@
 use Prim.Native.Nat.{ℕ, zero, suc, _+_, _<_}
 use native.Mathlib.Omega.{arith}
 use mathlib.Core.List.{List, [], _∷_, _++_}
-use lib.ListN.{getD, take, drop, set, replicate}
+use lib.ListN.{take, drop, set, replicate}
 use lib.Seq.{getD-drop}
 use Rattle.base.specs.Lists.{Bytes}
 

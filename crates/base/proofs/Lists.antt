@@ -179,3 +179,14 @@ joined-more f xs i z h = ap (joined f) (drop-cons xs i z h) ∙ ap (λ (n : ℕ)
 pub joined-all : {A : Type 0} (f : A → List ℕ) (xs : List A) (i : ℕ) → length xs ≤ i → joined f (drop i xs) ≡ []
 unfolding joined
 joined-all f xs i h = ap (joined f) (drop-of-length-le xs h)
+
+-- a list by its elements
+pub listed : (n : ℕ) (w : List ℕ) → length w ≡ n → from n 0 (λ i. getD w i 0) ≡ w
+listed n w h =
+    ext-getD 0 _ _ (from-length n 0 _ ∙ sym h)
+    (λ i q. from-zero-at n (λ i. getD w i 0) i (subst (λ (m : ℕ). i < m) (from-length n 0 (λ i. getD w i 0)) q))
+
+-- no refusal of two is none of either
+pub or-zero : (a b : ℕ) → orElse a b ≡ 0 → (a ≡ 0) × (b ≡ 0)
+or-zero zero b e = (refl, e)
+or-zero (suc a) b e = absurd (omega arith)

@@ -1,6 +1,6 @@
 -- Opening a body: `decrypt`, which takes the key stream off into the work buffer, and `decode`, which reads the frame as it stands.
 -- Assumes nothing.
-use Prim.Native.Nat.{ℕ, zero, suc}
+use Prim.Native.Nat.{ℕ}
 use mathlib.Core.Bool.{Bool, not}
 use mathlib.Core.List.{List}
 use lib.Dec.{ltb, eqb}

@@ -7,15 +7,12 @@ use native.Mathlib.Nat.{min-le-right, mod-lt}
 use native.Mathlib.Numerals.{add-one}
 use native.Mathlib.Omega.{arith}
 use borrow.Author.Tests.{lt-ltb, le-ltb}
-use lib.Dec.{ltb}
 use lib.ListN.{length, take, drop, getD, set, length-map}
 use lib.Seq.{take-suc, take-add}
 use mir.Val.{Val}
 use denote.Laws.{Is}
 use Rattle.cache.specs.declared.record.PayloadCache.{PayloadCache}
 use Rattle.cache.specs.declared.ring.Cache.{Cache}
-use Rattle.cache.specs.declared.ring.Added.{Added}
-use Rattle.cache.specs.declared.ring.CacheAnswer.{CacheAnswer}
 use Rattle.cache.specs.declared.ring.CacheAnswer.the-variants.{New, Seen}
 use Rattle.cache.proofs.record.PayloadCache as R
 use Rattle.cache.proofs.ring.Cache as T

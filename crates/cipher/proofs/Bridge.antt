@@ -1,21 +1,21 @@
 -- The cipher by columns is the cipher by bytes. Assumes nothing.
 use mathlib.Core.Path.{_≡_, refl, sym, ap, ap₂, _∙_}
 use mathlib.Core.List.{List, [], _∷_, _++_}
-use Prim.Native.Nat.{ℕ, zero, suc, _+_, _*_, _/_, _%_, _^_, _<_}
+use Prim.Native.Nat.{ℕ, zero, suc, _+_, _*_, _/_, _%_, _<_}
 use native.Mathlib.Nat.{add-zero}
 use native.Mathlib.Omega.{arith}
 use lib.Bits.{bitXor, xor-lt, xor-comm, xor-zero-r}
 use lib.Dec.{lit<}
 use lib.ListN.{getD, length, List·getD-append}
 use lib.Seq.{getD-append-add}
-use Rattle.base.specs.Lists.{from, Bytes, added}
+use Rattle.base.specs.Lists.{Bytes, added}
 use Rattle.base.proofs.Xor.{xor-assoc}
 use Rattle.base.proofs.Lists.{_◂_, from-length, from-zero-at, added-length, added-lt}
 use Rattle.wire.specs.Number.{beMore, beOf, beBytes}
 use Rattle.wire.proofs.Laws.Number.{bytes-of, be-xor}
 use Rattle.cipher.specs.declared.Cols.{Cols}
 use Rattle.fips197.specs.Field.{mul, sboxOf}
-use Rattle.fips197.specs.Aes.{state, at, sboxTable, subBytes, shiftRows, mixed, mixColumns, addRoundKey, rcon, keyByte, nextKey, roundKey, round, lastRound, rounds, aes}
+use Rattle.fips197.specs.Aes.{state, at, sboxTable, subBytes, shiftRows, mixed, mixColumns, addRoundKey, keyByte, nextKey, roundKey, round, lastRound, rounds, aes}
 use Rattle.cipher.specs.Words.{word, byteOf, col, loaded, bytesOf, teWord, teTable, keyWords, prepared, firstCol, nextCols, turned, sub, column, lastColumn, keyed, stepped, lastStepped, steps, enciphered}
 use Rattle.fips197.proofs.Field.{mul-lt}
 use Rattle.cipher.proofs.Columns.{cols}

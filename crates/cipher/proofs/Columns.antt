@@ -1,5 +1,5 @@
 -- Four columns, and what the loops of the cipher keep of them. Assumes nothing.
-use mathlib.Core.Path.{_≡_, refl, sym, ap, ap₂, _∙_}
+use mathlib.Core.Path.{_≡_, ap₂, _∙_}
 use Prim.Native.Nat.{ℕ, _+_, _*_}
 use mathlib.Core.List.{List}
 use native.Mathlib.Numerals.{add-one}

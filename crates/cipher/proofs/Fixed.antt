@@ -1,9 +1,6 @@
 -- Each public call of this crate has one outcome. Assumes nothing.
-use mathlib.Core.Path.{refl, sym, ap, _∙_}
-use mathlib.Core.List.{List}
-use Prim.Native.Nat.{ℕ}
-use denote.Ref.{now}
-use Rattle.base.proofs.Outcome.{Fixed, FixedPart}
+use mathlib.Core.Path.{refl, sym, _∙_}
+use Rattle.base.proofs.Outcome.{Fixed}
 use Rattle.cipher.proofs.prepare.Kinds as prepare-kinds
 use Rattle.cipher.proofs.prepare.Reads as prepare-reads
 use Rattle.cipher.proofs.encipher.Kinds as encipher-kinds

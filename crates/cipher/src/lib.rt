@@ -3,7 +3,6 @@
 // eleven round keys are laid out once for a key.
 ghost use mathlib.Core.Path.{_≡_};
 ghost use Prim.Native.Nat.{_+_, _≤_};
-ghost use mathlib.Core.List.{[], _∷_};
 ghost use lib.ListN.{length, getD, set};
 ghost use Rattle.cipher.specs.Words.{byteOf, turned, sub, column, lastColumn, loaded, keyed, stepped, lastStepped, bytesOf, nextCols, teTable, keyWords, prepared, enciphered};
 ghost use Rattle.wire.specs.Lay.{put};

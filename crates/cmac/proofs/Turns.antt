@@ -6,7 +6,7 @@ use native.Mathlib.Numerals.{add-one}
 use native.Mathlib.Omega.{arith}
 use mathlib.Core.List.{List, [], _∷_, _++_, foldl, foldl-append, append-assoc, append-nil}
 use lib.ListN.{length, getD, set, take, drop, take-append-drop, length-append, length-drop}
-use lib.Seq.{take-suc, take-all, drop-drop, length-take-le, drop-cons}
+use lib.Seq.{take-all, drop-drop, length-take-le, drop-cons}
 use borrow.Author.Tests.{lt-ltb, le-ltb}
 use Rattle.base.specs.Lists.{added}
 use Rattle.base.proofs.Lists.{from-zero-at, added-none, added-one, fold-more}

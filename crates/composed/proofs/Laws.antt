@@ -10,8 +10,8 @@ use lib.ListN.{length, getD}
 use borrow.Author.Tests.{le-ltb, ltb-true, ltb-false}
 use Rattle.base.specs.Pick.{pick}
 use Rattle.base.specs.Numbers.{itemLong, outside, itemMost, pathMost}
-use Rattle.base.specs.Lists.{from, imap, orElse, firstOf, joined}
-use Rattle.base.proofs.Lists.{from-length, from-get, imap-length}
+use Rattle.base.specs.Lists.{from, imap, firstOf, joined}
+use Rattle.base.proofs.Lists.{from-length, from-get, imap-length, or-zero}
 use Rattle.base.proofs.First.{passed}
 use Rattle.wire.specs.Part.{partOf}
 use Rattle.fields.specs.Path.{sixOf}
@@ -32,10 +32,6 @@ module _ (ev : Bool) (l : Lists) where
   none-composed = (rw (no-items, le-ltb (itemCount l) 0 (omega arith)), rw no-items)
 
 -- ---- a verdict of 0
-
-or-zero : (a b : ℕ) → orElse a b ≡ 0 → (a ≡ 0) × (b ≡ 0)
-or-zero zero b e = (refl, e)
-or-zero (suc a) b e = absurd (omega arith)
 
 none-of : {A : Type 0} (f : A → ℕ) (xs : List A) (z : A) → firstOf f xs ≡ 0 → (i : ℕ) → i < length xs → f (getD xs i z) ≡ 0
 unfolding firstOf

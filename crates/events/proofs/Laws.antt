@@ -8,13 +8,14 @@ use mathlib.Core.List.{List, [], _∷_, _++_}
 use lib.Dec.{ltb}
 use lib.ListN.{length, getD}
 use borrow.Author.Tests.{le-ltb, ltb-false}
+use Rattle.fields.proofs.Laws.Meta.{unless-bytes}
 use Rattle.base.specs.Lists.{Bytes, from}
 use Rattle.base.specs.Answers.{Frame, bytes, refused}
 use Rattle.wire.specs.Number.{beBytes}
 use Rattle.wire.proofs.Laws.Number.{be-length, bytes-of}
 use Rattle.fields.proofs.Laws.Bytes.{none, _▸_, small}
 use Rattle.payloads.specs.Read.{fourAt}
-use Rattle.payloads.proofs.Laws.{unless-bytes, with-four, four-is, spelt, third}
+use Rattle.payloads.proofs.Laws.{with-four, four-is, spelt, third}
 use Rattle.bodies.specs.Body.{Lent, bodyOf, bodyRefusal, bodyBytes, bodyWire}
 use Rattle.events.specs.Read.{stampedAt, asEvent, eventAt, asCommand, commandAt}
 use Rattle.events.specs.Write.{stamp, headedBy, stampedWire}

@@ -14,7 +14,6 @@ use Rattle.events.specs.declared.stamped.EventRead.the-variants.{Payload
 use Rattle.events.specs.declared.stamped.CommandPayload.{CommandPayload}
 use Rattle.events.specs.declared.stamped.CommandRead.{CommandRead}
 use Rattle.events.specs.declared.stamped.CommandRead.the-variants.{Payload as ACommand, Refused as NoCommand}
-use Rattle.events.specs.declared.stamped.Stamped.{Stamped}
 use Rattle.events.specs.declared.stamped.StampedRead.{StampedRead}
 use Rattle.events.specs.declared.stamped.StampedRead.the-variants.{Stamped as AStamped, Refused as NoStamped}
 

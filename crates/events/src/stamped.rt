@@ -1,6 +1,6 @@
 // Event and command bodies: timestamp, relay id, and what follows them.
 ghost use mathlib.Core.Path.{_≡_};
-ghost use mathlib.Core.Bool.{Bool, not};
+ghost use mathlib.Core.Bool.{Bool};
 ghost use Rattle.base.specs.Answers.{answerOf, outOf};
 ghost use Rattle.payloads.specs.Write.{limitedOf, prefixed, withMic};
 ghost use Rattle.bodies.specs.Body.{lent};

@@ -1,15 +1,13 @@
 -- Of bytes, each step of AES gives bytes, and the whole a block. Assumes nothing.
-use mathlib.Core.Path.{_≡_, refl}
+use mathlib.Core.Path.{refl}
 use mathlib.Core.List.{List}
 use Prim.Native.Nat.{ℕ, zero, suc, _+_, _*_, _/_, _%_, _<_}
-use native.Mathlib.Omega.{arith}
 use lib.Bits.{bitXor, xor-lt}
 use lib.Dec.{lit<}
-use lib.ListN.{getD}
 use Rattle.base.specs.Lists.{Bytes}
 use Rattle.base.specs.Blocks.{Block}
 use Rattle.base.proofs.Lists.{from-lt}
-use Rattle.fips197.specs.Field.{mul, xtime, sboxOf}
+use Rattle.fips197.specs.Field.{mul, sboxOf}
 use Rattle.fips197.specs.Aes.{state, at, subBytes, shiftRows, mixed, mixColumns, addRoundKey, rcon, inRow0, keyByte, nextKey, roundKey, round, lastRound, rounds, aes}
 use Rattle.fips197.proofs.Field.{xtime-lt, mul-lt}
 use Rattle.fips197.proofs.Table.{sbox-lt}

@@ -1,8 +1,7 @@
 -- The product in GF(2^8), by two and three, and that of bytes it is a byte. Assumes nothing.
-use mathlib.Core.Path.{_≡_, ap}
 use Prim.Native.Nat.{ℕ, zero, suc, _*_, _/_, _%_, _<_}
 use native.Mathlib.Omega.{arith}
-use lib.Bits.{bitXor, xor-lt, xor-zero-r}
+use lib.Bits.{xor-lt}
 use Rattle.fips197.specs.Field.{xtime, bitTimes, mulBits, mul}
 
 pub xtime-lt : (a : ℕ) → a < 256 → xtime a < 256

@@ -1,9 +1,6 @@
 -- Each public call of this crate has one outcome. Assumes nothing.
-use mathlib.Core.Path.{refl, sym, ap, _∙_}
-use mathlib.Core.List.{List}
-use Prim.Native.Nat.{ℕ}
-use denote.Ref.{now}
-use Rattle.base.proofs.Outcome.{Fixed, FixedPart}
+use mathlib.Core.Path.{refl, sym, _∙_}
+use Rattle.base.proofs.Outcome.{Fixed}
 use Rattle.fips197.proofs.sbox_table.Kinds as sbox-table-kinds
 use Rattle.fips197.proofs.sbox_table.Reads as sbox-table-reads
 use Rattle.fips197.proofs.times2.Kinds as times2-kinds

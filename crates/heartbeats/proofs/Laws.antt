@@ -11,11 +11,12 @@ use lib.IntN.{ℤ, pos, negsuc}
 use lib.ListN.{length, getD, take, drop, length-drop, List·getD-append}
 use lib.Seq.{ext-getD, take-add, take-all, length-take-le, getD-take, getD-drop, getD-append-add, getD-at}
 use borrow.Author.Tests.{le-ltb, ltb-true, ltb-false, eq-eqb, ne-eqb, eqb-true}
+use Rattle.base.proofs.Bytes.{append-lt}
 use Rattle.base.specs.Pick.{pick}
 use Rattle.base.specs.Numbers.{itemLong, pathMost}
 use Rattle.base.specs.Lists.{Bytes, imap, orElse, firstOf, joined}
 use Rattle.base.specs.Answers.{bytes, refused, bytesOr}
-use Rattle.base.proofs.Lists.{_◂_, imap-length, imap-at}
+use Rattle.base.proofs.Lists.{_◂_, imap-length, imap-at, or-zero, listed}
 use Rattle.wire.specs.Number.{beBytes}
 use Rattle.fields.specs.Signal.{rssiByte, snrByte}
 use Rattle.fields.specs.Meta.{afterRssi}
@@ -29,7 +30,7 @@ use Rattle.heartbeats.specs.Heartbeat.{sixAt, entryAt, entries, pathsOf,
 use Rattle.fields.specs.Path.{badEntry, sixOf}
 use Rattle.base.specs.Answers.{frameNumber}
 use Rattle.heartbeats.specs.declared.heartbeat.HeartbeatRead.the-variants.{Heartbeat}
-use Rattle.heartbeats.proofs.Steps.{noPath, listed, entries-length, six-length, first-snoc, joined-length, joined-snoc}
+use Rattle.heartbeats.proofs.Steps.{noPath, entries-length, six-length, first-snoc, joined-length, joined-snoc}
 
 -- ---- the entries by their index
 
@@ -113,10 +114,6 @@ wire-was ps w = by (eqb (firstOf badEntry ps) 0) (ltb pathMost (length ps)) refl
 abbrev pub Ids : List RelayPath → Type 0
 Ids ps = (i : ℕ) → getD ps i noPath .«relay_id» < 4294967296
 
-neither : (a b : ℕ) → orElse a b ≡ 0 → (a ≡ 0) × (b ≡ 0)
-neither zero b e = (refl, e)
-neither (suc a) b e = absurd (omega arith)
-
 six-first : (s v : List ℕ) → length s ≡ 6 → sixAt (s ++ v) 0 ≡ s
 six-first s v h = ap (λ (x : List ℕ). sixAt (x ++ v) 0) (sym (listed 6 s h)) ∙ listed 6 s h
 
@@ -137,22 +134,17 @@ entry-back : (ps : List RelayPath) → Ids ps → firstOf badEntry ps ≡ 0 → 
 unfolding entryAt joined firstOf
 entry-back [] h e i l = absurd (not-suc-le-zero l)
 entry-back (p ∷ ps) h e zero l =
-    ap pathOf (six-first (sixOf p) (joined sixOf ps) (six-length p)) ∙ path-back p (sixOf p) (h 0) (good-entry p (neither (badEntry p) (firstOf badEntry ps) e .0)) .2
+    ap pathOf (six-first (sixOf p) (joined sixOf ps) (six-length p)) ∙ path-back p (sixOf p) (h 0) (good-entry p (or-zero (badEntry p) (firstOf badEntry ps) e .0)) .2
 entry-back (p ∷ ps) h e (suc i) l =
     ap pathOf (six-skip (sixOf p) (joined sixOf ps) i (six-length p))
-    ∙ entry-back ps (λ k. h (suc k)) (neither (badEntry p) (firstOf badEntry ps) e .1) i (le-of-suc-le-suc l)
-
-append-bytes : (s t : List ℕ) → Bytes s → Bytes t → Bytes (s ++ t)
-append-bytes [] t hs ht i = ht i
-append-bytes (x ∷ s) t hs ht zero = hs 0
-append-bytes (x ∷ s) t hs ht (suc i) = append-bytes s t (λ k. hs (suc k)) ht i
+    ∙ entry-back ps (λ k. h (suc k)) (or-zero (badEntry p) (firstOf badEntry ps) e .1) i (le-of-suc-le-suc l)
 
 joined-bytes : (ps : List RelayPath) → Ids ps → firstOf badEntry ps ≡ 0 → Bytes (joined sixOf ps)
 unfolding joined firstOf
 joined-bytes [] h e i = omega arith
 joined-bytes (p ∷ ps) h e i =
-    append-bytes (sixOf p) (joined sixOf ps) (path-back p (sixOf p) (h 0) (good-entry p (neither (badEntry p) (firstOf badEntry ps) e .0)) .1)
-    (joined-bytes ps (λ k. h (suc k)) (neither (badEntry p) (firstOf badEntry ps) e .1)) i
+    append-lt (sixOf p) (joined sixOf ps) (path-back p (sixOf p) (h 0) (good-entry p (or-zero (badEntry p) (firstOf badEntry ps) e .0)) .1)
+    (joined-bytes ps (λ k. h (suc k)) (or-zero (badEntry p) (firstOf badEntry ps) e .1)) i
 
 -- what is written reads back as the same records
 pub beat-back : (ps : List RelayPath) (w : List ℕ) → Ids ps → beatWire ps ≡ bytes w → (length w ≡ length ps * 6) × (Bytes w) × (pathsOf w ≡ ps)

@@ -3,20 +3,20 @@ use Prim.Native.Nat.{ℕ, zero, suc, _+_, _*_, _/_, _%_, _≤_, _<_}
 use native.Mathlib.Numerals.{add-one}
 use native.Mathlib.Omega.{arith}
 use mathlib.Core.Bool.{Bool, true, false}
-use mathlib.Core.Path.{_≡_, refl, sym, ap, subst, _∙_}
+use mathlib.Core.Path.{_≡_, refl, sym, ap, _∙_}
 use mathlib.Core.List.{List, [], _∷_, _++_, append-assoc, append-nil}
-use lib.Dec.{ltb, leb, eqb}
+use lib.Dec.{ltb, eqb}
 use lib.IntN.{pos}
 use lib.ListN.{length, getD, take, drop, set, length-append, length-drop}
-use lib.Seq.{take-suc, take-all, ext-getD, drop-cons, set-at, sets, sets-eq, length-take-le}
+use lib.Seq.{take-suc, take-all, drop-cons, set-at, sets, sets-eq, length-take-le}
 use borrow.Author.Tests.{le-leb, lt-leb, ltb-false}
 use Rattle.base.specs.Pick.{pick}
 use Rattle.base.specs.Numbers.{itemLong, outputShort, outside, pathMost}
-use Rattle.base.specs.Lists.{from, orElse, firstOf, joined}
+use Rattle.base.specs.Lists.{orElse, firstOf, joined}
 use Rattle.base.specs.Answers.{Frame, bytes, refused, bytesOr, answerOf, outOf}
 use Rattle.base.specs.declared.Written.{Written}
 use Rattle.base.specs.declared.Written.the-variants.{Bytes as Done, Refused as NotDone}
-use Rattle.base.proofs.Lists.{from-length, from-zero-at}
+use Rattle.base.proofs.Lists.{listed}
 use Rattle.wire.specs.Lay.{put}
 use Rattle.wire.proofs.Laws.Lay.{put-fits, put-front, two-puts}
 use Rattle.wire.specs.Number.{beBytes}
@@ -143,11 +143,6 @@ joined-length [] = refl
 joined-length (p ∷ ps) = let e = joined-length ps in let s = six-length p in length-append (sixOf p) (joined sixOf ps) ∙ omega arith
 
 -- six stores, one behind the other, put the six bytes
-pub listed : (n : ℕ) (w : List ℕ) → length w ≡ n → from n 0 (λ i. getD w i 0) ≡ w
-listed n w h =
-    ext-getD 0 _ _ (from-length n 0 _ ∙ sym h)
-    (λ i q. from-zero-at n (λ i. getD w i 0) i (subst (λ (m : ℕ). i < m) (from-length n 0 (λ i. getD w i 0)) q))
-
 pub six-put : (o w : List ℕ) (k : ℕ) → length w ≡ 6 → k + 6 ≤ length o
     → set (set (set (set (set (set o k (getD w 0 0)) (k + 1) (getD w 1 0)) (k + 2) (getD w 2 0)) (k + 3) (getD w 3 0)) (k + 4) (getD w 4 0)) (k + 5) (getD w 5 0) ≡ put o k w
 six-put o w k h l =

@@ -3,14 +3,14 @@
 use Prim.Native.Nat.{ℕ, zero, suc, _+_, _-_, _≤_, _<_}
 use native.Mathlib.Omega.{arith}
 use mathlib.Core.Bool.{Bool, true, false}
-use mathlib.Core.Path.{_≡_, refl, sym, ap, _∙_}
+use mathlib.Core.Path.{_≡_, refl, ap, _∙_}
 use mathlib.Core.List.{List, [], _∷_}
-use lib.Dec.{ltb, leb, eqb}
+use lib.Dec.{ltb, leb}
 use lib.ListN.{length, getD, take, drop, length-drop, drop-of-length-le}
 use lib.Seq.{drop-cons, drop-drop, length-take-le}
-use borrow.Author.Tests.{lt-ltb, le-ltb, le-leb, lt-leb, ne-eqb, ltb-true, ltb-false, leb-true, leb-false}
+use borrow.Author.Tests.{lt-ltb, le-ltb, le-leb, lt-leb, ltb-true, ltb-false, leb-true, leb-false}
 use Rattle.base.specs.Pick.{pick}
-use Rattle.items.specs.Items.{badBeat, Piece, kept, skipped, cut, pieces, itemOf, tailAt, itemAt, keptItems, skippedItems, keptBytes, skippedBytes, cutBytes, isClean}
+use Rattle.items.specs.Items.{badBeat, Piece, kept, skipped, cut, pieces, itemOf, tailAt, itemAt, keptBytes, skippedBytes, cutBytes}
 use Rattle.items.specs.declared.item.ItemRead.{ItemRead}
 use Rattle.items.specs.declared.item.ItemRead.the-variants.{Kept, Skipped, Cut, End, Refused}
 

@@ -1,22 +1,21 @@
 -- The loop of `count_items`, on plain values: what has been counted, with what the pieces from `at` on still hold, is what all hold.
 -- Assumes nothing.
-use Prim.Native.Nat.{ℕ, _+_, _-_, _≤_, _<_}
+use Prim.Native.Nat.{ℕ, _+_, _-_, _≤_}
 use native.Mathlib.Omega.{arith}
 use mathlib.Core.Bool.{Bool, true, false}
-use mathlib.Core.Path.{_≡_, refl, sym, ap, ap₂, _∙_}
-use mathlib.Core.List.{List, [], _∷_}
+use mathlib.Core.Path.{_≡_, refl, sym, ap, _∙_}
+use mathlib.Core.List.{List}
 use lib.Dec.{eqb}
-use lib.ListN.{length, getD, take, drop, length-drop}
+use lib.ListN.{length, getD, drop, length-drop}
 use lib.Seq.{length-take-le}
 use borrow.Author.Tests.{ne-eqb}
 use Rattle.base.specs.Pick.{pick}
 use Rattle.wire.specs.declared.run.Run.{Run}
 use Rattle.items.specs.declared.item.Item.{Item}
-use Rattle.items.specs.declared.item.ItemRead.{ItemRead}
 use Rattle.items.specs.declared.item.ItemRead.the-variants.{Kept, Skipped, Cut, End}
 use Rattle.items.specs.declared.count.Opening.{Opening}
 use Rattle.items.specs.Items.{pieces, itemAt, openingOf, keptItems, skippedItems, keptBytes, skippedBytes, cutBytes, isClean}
-use Rattle.items.proofs.Laws.{Turn, turn}
+use Rattle.items.proofs.Laws.{turn}
 
 pub record Sofar (ev : Bool) (s : List ℕ) (at k sk kb sb : ℕ) : Type 0 where
   pub within : at ≤ length s

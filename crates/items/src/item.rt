@@ -1,7 +1,7 @@
 // One item at a time, at a place in the payload that the caller keeps.
 ghost use mathlib.Core.Path.{_≡_};
 ghost use mathlib.Core.Bool as Bool;
-ghost use Rattle.items.specs.Items.{kindOf, badBeat, itemOf, itemAt, decodeOf, sealedItem, typeOf};
+ghost use Rattle.items.specs.Items.{kindOf, badBeat, itemAt, decodeOf, sealedItem, typeOf};
 use base::Limit;
 use base::Refusal;
 use base::wide;

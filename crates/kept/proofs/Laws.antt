@@ -1,7 +1,7 @@
 -- Laws of items as they are written, and of an open payload. Assumes nothing.
-use Prim.Native.Nat.{ℕ, suc, _+_, _%_, _<_, _≤_}
+use Prim.Native.Nat.{ℕ, _+_, _%_, _<_, _≤_}
 use native.Mathlib.Omega.{arith}
-use mathlib.Core.Bool.{Bool, true, false}
+use mathlib.Core.Bool.{Bool, false}
 use mathlib.Core.Path.{_≡_, refl, sym, ap, _∙_}
 use mathlib.Core.List.{List, [], _∷_, _++_}
 use lib.ListN.{length, getD, set, length-append}
@@ -11,7 +11,7 @@ use Rattle.wire.specs.Lay.{put}
 use Rattle.wire.proofs.Laws.Lay.{put-none, puts-join, Laying, laying-more}
 use Rattle.items.specs.Items.{isBeat, Piece, kept, skipped, cut, pieces, keptBytes, openingOf}
 use Rattle.items.specs.declared.count.Opening.{Opening}
-use Rattle.kept.specs.Kept.{headed, fixed, itemBytes, keptWire, openBytes}
+use Rattle.kept.specs.Kept.{fixed, itemBytes, keptWire, openBytes}
 
 -- a value that is no heartbeat's is written as it is
 pub fixed-plain : (v : List ℕ) → imap (fixed false) 0 v ≡ v

@@ -1,10 +1,10 @@
 -- The steps that the writers' proofs share. Assumes nothing.
 use Prim.Native.Nat.{ℕ, _≤_, _<_}
-use mathlib.Core.Path.{_≡_, refl, sym, ap, ap₂, _∙_}
+use mathlib.Core.Path.{_≡_, refl, sym, ap₂}
 use mathlib.Core.List.{List}
 use lib.ListN.{length}
 use borrow.Author.Tests.{lt-ltb, le-ltb, eq-eqb, ne-eqb}
-use Rattle.base.specs.Answers.{Frame, bytes, refused, answerOf, outOf}
+use Rattle.base.specs.Answers.{Frame, bytes, answerOf, outOf}
 use Rattle.base.specs.declared.Written.the-variants.{Refused}
 use Rattle.fields.specs.Header.{headerByte}
 use Rattle.fields.specs.declared.header.HeaderByte.{HeaderByte}

@@ -4,7 +4,6 @@ use mathlib.Core.List.{List, []}
 use Prim.Native.Nat.{ℕ}
 use Rattle.base.specs.Answers.{Frame, bytes, answerOf, Answer, value, number}
 use Rattle.items.specs.Items.{nothing}
-use Rattle.items.specs.declared.count.Opening.{Opening}
 use Rattle.bodies.specs.Body.{Lent}
 use Rattle.bodies.specs.Open.{decryptOf, workAfter, decodeOf, Told, told, wasOpen}
 use Rattle.events.specs.Seal.{eventSeal, eventSealed, commandSeal, commandSealed, eventOpened, commandOpened}

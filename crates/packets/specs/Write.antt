@@ -9,7 +9,6 @@ use Rattle.base.specs.Numbers.{frameLong}
 use Rattle.base.specs.Answers.{Frame, bytes, refused}
 use Rattle.fields.specs.Header.{headerByte}
 use Rattle.fields.specs.Meta.{unlessRefused}
-use Rattle.fields.specs.declared.header.MHDR.{MHDR}
 use Rattle.fields.specs.declared.header.HeaderByte.{HeaderByte}
 use Rattle.fields.specs.declared.header.HeaderByte.the-variants.{Byte, Refused as NoByte}
 use Rattle.wire.specs.Run.{runRefusal, runBytes}

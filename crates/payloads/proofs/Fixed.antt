@@ -2,9 +2,8 @@
 use mathlib.Core.Path.{refl, sym, ap, ap₂, _∙_}
 use mathlib.Core.List.{List}
 use Prim.Native.Nat.{ℕ}
-use denote.Ref.{now}
 use Rattle.base.specs.declared.Checked.{Checked}
-use Rattle.base.proofs.Outcome.{Fixed, FixedPart}
+use Rattle.base.proofs.Outcome.{Fixed}
 use Rattle.payloads.specs.declared.uplink.UplinkHead.{UplinkHead}
 use Rattle.payloads.specs.declared.downlink.DownlinkHead.{DownlinkHead}
 use Rattle.payloads.proofs.uplink.UplinkPayload.read_at.Kinds as uplink-read-at-kinds

@@ -5,9 +5,10 @@ use native.Mathlib.Omega.{arith}
 use mathlib.Core.Bool.{Bool, true, false}
 use mathlib.Core.Path.{_≡_, refl, sym, ap, ap₂, _∙_}
 use mathlib.Core.List.{List, [], _∷_, _++_}
-use lib.Dec.{ltb, eqb}
+use lib.Dec.{ltb}
 use lib.ListN.{length, getD, length-append}
-use borrow.Author.Tests.{ltb-false, eqb-true}
+use borrow.Author.Tests.{ltb-false}
+use Rattle.base.proofs.Lists.{listed}
 use Rattle.base.specs.Pick.{pick}
 use Rattle.base.specs.Lists.{Bytes, from}
 use Rattle.base.specs.Answers.{Frame, bytes, refused}
@@ -15,11 +16,11 @@ use Rattle.wire.specs.Number.{beOf, beBytes}
 use Rattle.wire.proofs.Laws.Number.{be-length, of-bytes, bytes-of}
 use Rattle.fields.specs.Freq.{hertzOf}
 use Rattle.fields.specs.Signal.{rssiByte, snrByte}
-use Rattle.fields.specs.Meta.{idBytes, idRefusal, unlessRefused, afterRssi, upOf, upWire, downOf, downWire}
+use Rattle.fields.specs.Meta.{idBytes, idRefusal, afterRssi, upOf, upWire, downOf, downWire}
 use Rattle.fields.specs.declared.meta.UplinkMetadata.{UplinkMetadata}
 use Rattle.fields.specs.declared.meta.DownlinkMetadata.{DownlinkMetadata}
 use Rattle.fields.proofs.Laws.Bytes.{none, _▸_, small}
-use Rattle.fields.proofs.Laws.Meta.{signals, up-back, up-again, down-back, down-again}
+use Rattle.fields.proofs.Laws.Meta.{signals, up-back, up-again, down-back, down-again, unless-bytes}
 use Rattle.wire.specs.Run.{runRefusal, runBytes}
 use Rattle.payloads.specs.Read.{fourAt, uplinkAt, downlinkAt}
 use Rattle.payloads.specs.Write.{followed, withRun, uplinkHead, downlinkHead}
@@ -28,16 +29,9 @@ use Rattle.payloads.specs.declared.uplink.UplinkPayload.{UplinkPayload}
 use Rattle.payloads.specs.declared.uplink.UplinkRead.the-variants.{Payload as AnUplink}
 use Rattle.payloads.specs.declared.downlink.DownlinkPayload.{DownlinkPayload}
 use Rattle.payloads.specs.declared.downlink.DownlinkRead.the-variants.{Payload as ADownlink}
-use Rattle.payloads.proofs.Steps.{listed, uplink-is, downlink-is}
+use Rattle.payloads.proofs.Steps.{uplink-is, downlink-is}
 
 -- ---- what a frame of bytes came of
-
-pub unless-bytes : (n : ℕ) (f : Frame) (w : List ℕ) → unlessRefused n f ≡ bytes w → (n ≡ 0) × (f ≡ bytes w)
-unless-bytes n f w e = by (eqb n 0) refl e
-  where
-    by : (t : Bool) → eqb n 0 ≡ t → pick t f (refused n) ≡ bytes w → (n ≡ 0) × (f ≡ bytes w)
-    by true h q = (eqb-true n 0 h, q)
-    by false h q = let z : _≡_ {A = ℕ} 0 1 = cc in absurd (omega arith)
 
 pub followed-bytes : (f : Frame) (v w : List ℕ) → followed f v ≡ bytes w → (u : List ℕ) × (f ≡ bytes u) × (w ≡ u ++ v)
 followed-bytes (bytes u) v w e = (u, refl, cc)

@@ -2,18 +2,15 @@
 use Prim.Native.Nat.{ℕ, _+_, _-_, _≤_, _<_}
 use native.Mathlib.Omega.{arith}
 use mathlib.Core.Bool.{Bool, true, false}
-use mathlib.Core.Path.{_≡_, refl, sym, ap, subst, _∙_}
+use mathlib.Core.Path.{_≡_, refl, sym, ap, _∙_}
 use mathlib.Core.List.{List, [], _∷_, _++_, append-nil}
 use lib.ListN.{length, getD, replicate, length-append}
-use lib.Seq.{ext-getD}
 use borrow.Author.Tests.{lt-ltb, le-ltb}
-use Rattle.base.specs.Lists.{from}
 use Rattle.base.specs.Numbers.{frameLong, micMissing}
 use Rattle.base.specs.Answers.{Frame, bytes, refused, checkedOf, bytesOr, answerOf, outOf}
 use Rattle.base.specs.declared.Checked.the-variants.{Accepted, Refused as No}
 use Rattle.base.specs.declared.Written.{Written}
 use Rattle.base.specs.declared.Written.the-variants.{Refused}
-use Rattle.base.proofs.Lists.{from-length, from-zero-at}
 use Rattle.wire.specs.Lay.{put}
 use Rattle.wire.specs.Number.{beBytes}
 use Rattle.wire.proofs.Laws.Lay.{put-front, two-puts}
@@ -27,12 +24,6 @@ use Rattle.payloads.specs.Write.{followed, prefixed, limited, limitedOf,
 use Rattle.wire.specs.declared.run.Run.{Run}
 use Rattle.payloads.specs.declared.uplink.UplinkRead.the-variants.{Payload as AnUplink}
 use Rattle.payloads.specs.declared.downlink.DownlinkRead.the-variants.{Payload as ADownlink}
-
--- a list is its elements, one after the other
-pub listed : (n : ℕ) (w : List ℕ) → length w ≡ n → from n 0 (λ i. getD w i 0) ≡ w
-listed n w h =
-    ext-getD 0 _ _ (from-length n 0 _ ∙ sym h)
-    (λ i q. from-zero-at n (λ i. getD w i 0) i (subst (λ (m : ℕ). i < m) (from-length n 0 (λ i. getD w i 0)) q))
 
 -- ---- a body that is neither too long nor too short
 

@@ -11,7 +11,7 @@ use Rattle.base.specs.Pick.{pick}
 use Rattle.base.specs.Lists.{Bytes}
 use Rattle.base.specs.Blocks.{Block}
 use Rattle.base.specs.Numbers.{frameEmpty, frameShort, bodyShort, frameLong}
-use Rattle.base.specs.Answers.{value, number, bytes, numberIn}
+use Rattle.base.specs.Answers.{value, bytes, numberIn}
 use Rattle.wire.specs.Run.{runBytes}
 use Rattle.wire.specs.declared.run.Run.{Run}
 use Rattle.fips197.specs.Aes.{aes}

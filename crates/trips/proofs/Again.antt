@@ -1,18 +1,18 @@
 -- What a frame that was read is made of, and what writing it again gives. Assumes nothing.
-use Prim.Native.Nat.{ℕ, zero, suc, _+_, _-_, _/_, _≤_, _<_}
+use Prim.Native.Nat.{ℕ, _+_, _-_, _≤_, _<_}
 use native.Mathlib.Nat.{add-zero}
 use native.Mathlib.Omega.{arith}
 use mathlib.Core.Bool.{Bool, true, false}
 use mathlib.Core.Path.{_≡_, refl, sym, ap, ap₂, subst, _∙_}
 use mathlib.Core.List.{List, [], _∷_, _++_}
 use lib.Dec.{ltb, eqb}
-use lib.ListN.{length, getD, take, drop, length-drop}
+use lib.ListN.{length, getD, drop, length-drop}
 use lib.Seq.{getD-drop}
-use borrow.Author.Tests.{le-ltb, ltb-false, eqb-false}
+use borrow.Author.Tests.{le-ltb, ltb-false}
 use Rattle.base.specs.Pick.{pick}
 use Rattle.base.specs.Lists.{Bytes}
 use Rattle.base.specs.Answers.{Frame, bytes}
-use Rattle.base.proofs.Lists.{_◂_}
+use Rattle.base.proofs.Lists.{_◂_, listed}
 use Rattle.wire.specs.Number.{beOf, beBytes}
 use Rattle.wire.proofs.Laws.Number.{bytes-of}
 use Rattle.fields.specs.Header.{headerOf, headerByte}
@@ -25,14 +25,12 @@ use Rattle.fields.proofs.Laws.Header.{header-again}
 use Rattle.payloads.specs.Read.{fourAt}
 use Rattle.composed.specs.Composed.{Lists}
 use Rattle.trips.specs.Which.{framed}
-use Rattle.payloads.proofs.Steps.{listed}
 use Rattle.payloads.specs.Write.{withMic}
 use Rattle.packets.specs.Read.{bodyIn, payloadAt, withPayload, withHeader, meshOf}
 use Rattle.packets.specs.Write.{payloadWire, behind, messageOf, meshFrame}
 use Rattle.packets.specs.declared.mesh.MeshPacket.{MeshPacket}
 use Rattle.packets.specs.declared.mesh.PayloadRead.{PayloadRead}
 use Rattle.packets.specs.declared.mesh.PayloadRead.the-variants.{Payload as PayloadIs, Refused as NoPayload}
-use Rattle.packets.specs.declared.mesh.MeshRead.{MeshRead}
 use Rattle.packets.specs.declared.mesh.MeshRead.the-variants.{Mesh, Refused}
 
 pub record Read (s : List ℕ) (p : MeshPacket) : Type 0 where

@@ -1,21 +1,21 @@
 -- What is written and accepted reads back as the same packet: the payload by its bytes and not by its place, and a downlink's frequency as
 -- its three bytes mean it. Said for a header whose type is the payload's kind, and for LoRa frames of at least one byte whose first does not
 -- begin with 111. The bounds are those of the fields' types. Assumes nothing.
-use Prim.Native.Nat.{ℕ, zero, suc, _+_, _-_, _/_, _≤_, _<_}
+use Prim.Native.Nat.{ℕ, _+_, _-_, _/_, _≤_, _<_}
 use native.Mathlib.Nat.{min-le-left}
 use native.Mathlib.Omega.{arith}
 use mathlib.Core.Bool.{Bool, true, false}
-use mathlib.Core.Path.{_≡_, refl, sym, ap, ap₂, subst, _∙_}
+use mathlib.Core.Path.{_≡_, refl, sym, ap, _∙_}
 use mathlib.Core.List.{List, [], _∷_, _++_, append-assoc}
-use lib.Dec.{ltb, eqb}
+use lib.Dec.{ltb}
 use lib.ListN.{length, getD, take, drop, length-append, length-take}
 use lib.Seq.{drop-at, take-append-seam}
 use borrow.Author.Tests.{le-ltb, ne-eqb, ltb-false}
+use Rattle.fields.proofs.Laws.Meta.{unless-bytes}
 use Rattle.base.specs.Pick.{pick}
-use Rattle.base.specs.Answers.{Frame, bytes, refused}
+use Rattle.base.specs.Answers.{bytes, refused}
 use Rattle.wire.specs.Number.{beBytes}
 use Rattle.wire.specs.Part.{partOf}
-use Rattle.fields.specs.declared.header.MHDR.{MHDR}
 use Rattle.fields.specs.declared.header.PayloadType.{PayloadType}
 use Rattle.fields.specs.declared.header.PayloadType.the-variants.{Uplink, Downlink, Event, Command}
 use Rattle.fields.proofs.Laws.Header.{header-back}
@@ -30,13 +30,12 @@ use Rattle.payloads.specs.declared.uplink.UplinkPayload.{UplinkPayload}
 use Rattle.payloads.specs.declared.downlink.DownlinkPayload.{DownlinkPayload}
 use Rattle.events.specs.declared.stamped.EventPayload.{EventPayload}
 use Rattle.events.specs.declared.stamped.CommandPayload.{CommandPayload}
-use Rattle.payloads.proofs.Laws.{unless-bytes, run-bytes, uplink-length, downlink-length, uplink-read-back, heard, downlink-read-back}
+use Rattle.payloads.proofs.Laws.{run-bytes, uplink-length, downlink-length, uplink-read-back, heard, downlink-read-back}
 use Rattle.events.proofs.Laws.{stamp-length, stamped-bytes, event-read-back, command-read-back}
 use Rattle.packets.specs.Read.{ofUplink, ofDownlink, ofEvent, ofCommand, payloadAt, meshOf, packetOf}
 use Rattle.packets.specs.Write.{payloadWire, meshFrame, loraFrame}
 use Rattle.packets.specs.declared.mesh.Payload.{Payload}
 use Rattle.packets.specs.declared.mesh.Payload.the-variants.{Uplink as AnUplink, Downlink as ADownlink, Event as AnEvent, Command as ACommand}
-use Rattle.packets.specs.declared.mesh.PayloadRead.{PayloadRead}
 use Rattle.packets.specs.declared.mesh.PayloadRead.the-variants.{Payload as PayloadIs}
 use Rattle.packets.specs.declared.mesh.MeshPacket.{MeshPacket}
 use Rattle.packets.specs.declared.mesh.MeshRead.the-variants.{Mesh}

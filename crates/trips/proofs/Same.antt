@@ -12,7 +12,7 @@ use Rattle.base.specs.Pick.{pick}
 use Rattle.base.specs.Lists.{from, Bytes}
 use Rattle.base.specs.Answers.{Frame, bytes}
 use Rattle.base.proofs.Bytes.{take-lt, drop-lt}
-use Rattle.base.proofs.Lists.{from-same}
+use Rattle.base.proofs.Lists.{from-same, listed}
 use Rattle.wire.specs.Part.{reachOf, partOf}
 use Rattle.fields.specs.Header.{headerOf, codeOf}
 use Rattle.fields.specs.declared.header.MHDR.{MHDR}
@@ -43,7 +43,6 @@ use Rattle.events.specs.declared.stamped.EventRead.the-variants.{Payload as Eve
 use Rattle.events.specs.declared.stamped.CommandPayload.{CommandPayload}
 use Rattle.events.specs.declared.stamped.CommandRead.{CommandRead}
 use Rattle.events.specs.declared.stamped.CommandRead.the-variants.{Payload as CommandIs, Refused as NoCommand}
-use Rattle.payloads.proofs.Steps.{listed}
 use Rattle.payloads.proofs.Laws.{uplink-was, uplink-again, downlink-was, downlink-again}
 use Rattle.events.proofs.Laws.{event-was, event-again, command-was, command-again}
 use Rattle.packets.specs.Read.{bodyIn, ofUplink, ofDownlink, ofEvent, ofCommand, payloadAt, meshOf}

@@ -1,6 +1,6 @@
 -- Sealing and opening undo each other: what is sealed, sealed again, is the clear bytes, still marked sealed; and opened it has the items
 -- of the clear bytes. For every length, key and kind, and whatever else is lent. Assumes nothing.
-use Prim.Native.Nat.{ℕ, _+_, _≤_}
+use Prim.Native.Nat.{ℕ, _+_}
 use native.Mathlib.Omega.{arith}
 use mathlib.Core.Bool.{Bool, true, false, not}
 use mathlib.Core.Path.{_≡_, refl, sym, ap, _∙_}
@@ -13,7 +13,7 @@ use Rattle.base.specs.Answers.{Frame, bytes}
 use Rattle.wire.specs.Run.{runRefusal, runBytes}
 use Rattle.wire.specs.declared.run.Run.{Run}
 use Rattle.fields.specs.Meta.{unlessRefused}
-use Rattle.fields.proofs.Laws.Meta.{not-refused}
+use Rattle.fields.proofs.Laws.Meta.{not-refused, unless-bytes}
 use Rattle.seal.specs.Stream.{streamed, sealedOf}
 use Rattle.seal.proofs.Laws.{seal-twice}
 use Rattle.items.specs.Items.{openingOf}
@@ -23,7 +23,6 @@ use Rattle.bodies.specs.Body.{Lent, bodyOf, bodyRefusal, bodyBytes}
 use Rattle.bodies.specs.Open.{nothingIn, sealWire, openedBy, decryptOf}
 use Rattle.bodies.specs.declared.body.Body.{Body}
 use Rattle.bodies.specs.declared.body.Body.the-variants.{Empty, Sealed}
-use Rattle.payloads.proofs.Laws.{unless-bytes}
 use Rattle.events.specs.Seal.{stampedSeal, eventSeal, commandSeal}
 use Rattle.events.specs.declared.stamped.EventPayload.{EventPayload}
 use Rattle.events.specs.declared.stamped.CommandPayload.{CommandPayload}

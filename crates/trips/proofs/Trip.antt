@@ -4,14 +4,14 @@ use native.Mathlib.Nat.{add-zero}
 use native.Mathlib.Omega.{arith}
 use mathlib.Core.Bool.{Bool, true, false}
 use mathlib.Core.Path.{_≡_, refl, sym, ap, _∙_}
-use mathlib.Core.List.{List, [], _∷_, _++_}
-use lib.ListN.{length, getD, take, drop, length-append}
+use mathlib.Core.List.{List, _∷_, _++_}
+use lib.ListN.{length, getD, length-append}
 use lib.Seq.{take-at, getD-append-add}
 use lib.Dec.{ltb}
 use borrow.Author.Tests.{le-ltb, ne-eqb, ltb-false}
 use Rattle.base.specs.Pick.{pick}
 use Rattle.base.specs.Answers.{Frame, bytes, refused}
-use Rattle.wire.specs.Number.{beOf, beBytes}
+use Rattle.wire.specs.Number.{beBytes}
 use Rattle.wire.proofs.Laws.Number.{be-length, of-bytes}
 use Rattle.fields.specs.Header.{headerOf, headerByte}
 use Rattle.fields.specs.declared.header.MHDR.{MHDR}

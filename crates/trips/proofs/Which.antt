@@ -2,20 +2,19 @@
 use Prim.Native.Nat.{ℕ, zero, suc, _+_, _-_, _/_, _%_, _≤_, _<_}
 use native.Mathlib.Omega.{arith}
 use mathlib.Core.Bool.{Bool, true, false}
-use mathlib.Core.Path.{_≡_, refl, sym, ap, _∙_}
+use mathlib.Core.Path.{_≡_, refl, ap, _∙_}
 use mathlib.Core.List.{List}
 use lib.Dec.{ltb, eqb}
-use lib.ListN.{length, getD, take, drop, length-drop}
+use lib.ListN.{length, getD, drop, length-drop}
 use lib.Seq.{length-take-le}
-use borrow.Author.Tests.{lt-ltb, le-ltb, eq-eqb, ne-eqb, eqb-true, eqb-false, ltb-true, ltb-false}
+use borrow.Author.Tests.{lt-ltb, le-ltb, ne-eqb, eqb-true, eqb-false, ltb-true, ltb-false}
 use Rattle.base.specs.Pick.{pick}
-use Rattle.base.specs.Numbers.{frameLong, bodyShort}
+use Rattle.base.specs.Numbers.{bodyShort}
 use Rattle.fields.specs.Header.{headerOf, codeOf}
 use Rattle.fields.specs.declared.header.MHDR.{MHDR}
 use Rattle.fields.specs.declared.header.PayloadType.{PayloadType}
 use Rattle.fields.specs.declared.header.PayloadType.the-variants.{Uplink, Downlink, Event, Command}
-use Rattle.fields.specs.declared.header.HeaderRead.the-variants.{Header}
-use Rattle.fields.proofs.Laws.Header.{Marked, marked, not-marked}
+use Rattle.fields.proofs.Laws.Header.{marked, not-marked}
 use Rattle.payloads.specs.Read.{uplinkAt, downlinkAt}
 use Rattle.events.specs.Read.{stampedAt, eventAt, commandAt}
 use Rattle.packets.specs.Read.{bodyIn, payloadAt, withPayload, withHeader, meshOf}

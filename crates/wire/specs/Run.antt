@@ -2,7 +2,6 @@
 use Prim.Native.Nat.{ℕ}
 use mathlib.Core.List.{List}
 use lib.Dec.{eqb}
-use lib.ListN.{length}
 use Rattle.base.specs.Pick.{pick}
 use Rattle.wire.specs.Part.{reachOf, reachNumber, partOf}
 use Rattle.wire.specs.declared.run.Run.{Run}

@@ -1,7 +1,7 @@
 -- `aes128::encrypt_block` meets its contract. Assumes nothing.
 use mir.Val.{Fits}
 use mir.Syntax.{w8}
-use lib.ListN.{length, getD}
+use lib.ListN.{getD}
 use mathlib.Core.List.{List}
 use Prim.Native.Nat.{ℕ}
 use Rattle.base.specs.Lists.{Bytes}

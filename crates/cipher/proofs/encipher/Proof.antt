@@ -1,5 +1,5 @@
 -- `cipher::encipher` meets its contract. Assumes nothing.
-use Prim.Native.Nat.{ℕ, _-_, _≤_}
+use Prim.Native.Nat.{_-_, _≤_}
 use Rattle.cipher.specs.Words.{steps}
 use Rattle.cipher.proofs.Columns.{steps-more, ended}
 use borrow.Author.Needs.{needs}

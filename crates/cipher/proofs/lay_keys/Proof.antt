@@ -3,12 +3,10 @@ use mir.Val.{Fits}
 use mir.Syntax.{w8}
 use lib.ListN.{length, getD}
 use mathlib.Core.List.{List}
-use Prim.Native.Nat.{ℕ, _-_, _+_, _≤_, _<_}
+use Prim.Native.Nat.{ℕ, _-_, _≤_}
 use Rattle.base.specs.Lists.{Bytes}
-use Rattle.fips197.specs.Aes.{sboxTable}
-use Rattle.cipher.specs.Words.{keyWords, nextCols}
+use Rattle.cipher.specs.Words.{nextCols}
 use Rattle.cipher.proofs.Laws.{Keys, keys-first, keys-more, keys-done}
-use Rattle.wire.specs.Lay.{put}
 use borrow.Author.Needs.{needs}
 use native.Mathlib.Omega.{arith}
 use mathlib.Core.Path.{_≡_, ap, _∙_}

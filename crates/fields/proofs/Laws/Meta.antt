@@ -73,7 +73,7 @@ down-fits m e =
 
 -- ---- what a frame of bytes came of
 
-unless-bytes : (n : ℕ) (f : Frame) (w : List ℕ) → unlessRefused n f ≡ bytes w → (n ≡ 0) × (f ≡ bytes w)
+pub unless-bytes : (n : ℕ) (f : Frame) (w : List ℕ) → unlessRefused n f ≡ bytes w → (n ≡ 0) × (f ≡ bytes w)
 unless-bytes n f w e = by (eqb n 0) refl e
   where
     by : (t : Bool) → eqb n 0 ≡ t → pick t f (refused n) ≡ bytes w → (n ≡ 0) × (f ≡ bytes w)

@@ -1,7 +1,6 @@
 -- `kept::fix` meets its contract. Assumes nothing.
 use Rattle.kept.specs.Kept.{fixed}
 use borrow.Author.Tests.{eq-eqb, ne-eqb}
-use borrow.Author.Needs.{needs}
 use Rattle.kept.proofs.fix.Statement.{statement}
 use Rattle.kept.proofs.fix.Tie as tie
 

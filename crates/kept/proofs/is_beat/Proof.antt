@@ -1,5 +1,4 @@
 -- `kept::is_beat` meets its contract. Assumes nothing.
-use borrow.Author.Needs.{needs}
 use Rattle.kept.proofs.is_beat.Statement.{statement}
 use Rattle.kept.proofs.is_beat.Tie as tie
 

@@ -2,7 +2,7 @@
 use lib.ListN.{length}
 use Prim.Native.Nat.{_-_, _+_, _≤_, _<_}
 use native.Mathlib.Omega.{arith}
-use mathlib.Core.Path.{sym, ap, _∙_}
+use mathlib.Core.Path.{ap, _∙_}
 use denote.Ref.{now}
 use Rattle.wire.proofs.Laws.Lay.{put-length}
 use Rattle.kept.proofs.Laws.{item-none, item-laid}

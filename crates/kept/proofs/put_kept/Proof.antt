@@ -2,9 +2,9 @@
 use lib.ListN.{length}
 use Prim.Native.Nat.{_-_, _+_, _≤_, _<_}
 use native.Mathlib.Omega.{arith}
-use mathlib.Core.Path.{sym, ap, _∙_}
+use mathlib.Core.Path.{sym, _∙_}
 use denote.Ref.{now}
-use Rattle.wire.proofs.Laws.Lay.{put-length, put-none, joining-same}
+use Rattle.wire.proofs.Laws.Lay.{put-none, joining-same}
 use Rattle.items.proofs.Laws.{turn}
 use Rattle.kept.proofs.Laws.{told}
 use Rattle.kept.proofs.Loop.{Sofar, none-yet, room, one-kept, one-skipped, at-cut, at-end}

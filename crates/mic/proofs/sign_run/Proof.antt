@@ -1,9 +1,9 @@
 -- `mic::sign_run` meets its contract. Assumes nothing.
-use Prim.Native.Nat.{ℕ, _<_}
+use Prim.Native.Nat.{ℕ}
 use native.Mathlib.Omega.{arith}
 use mir.Val.{Fits}
 use mir.Syntax.{w8}
-use mathlib.Core.List.{List, [], _∷_, foldl}
+use mathlib.Core.List.{[], _∷_, foldl}
 use lib.ListN.{length, getD}
 use mathlib.Core.Path.{_≡_, ap, _∙_}
 use denote.Ref.{now}

@@ -1,13 +1,13 @@
 -- Laws of big-endian numbers, over the width. Assumes nothing.
-use Prim.Native.Nat.{ℕ, zero, suc, _+_, _*_, _/_, _%_, _^_, _≤_, _<_}
+use Prim.Native.Nat.{ℕ, zero, suc, _+_, _*_, _/_, _%_, _^_, _<_}
 use native.Mathlib.Nat.{mod-lt, zero-lt-suc, pow-succ', mul-pos, mod-eq-of-lt, add-mul, mul-assoc, add-assoc, zero-add}
 use native.Mathlib.Omega.{arith}
-use mathlib.Core.Path.{_≡_, refl, sym, ap, ap₂, subst, _∙_}
+use mathlib.Core.Path.{_≡_, refl, sym, ap, ap₂, _∙_}
 use mathlib.Core.List.{List, [], _∷_}
 use lib.Arith.{mod-mul, digits-lt, digits-div, digits-mod}
 use lib.Bits.{bitXor, xor-block}
 use lib.Dec.{lit<}
-use lib.ListN.{length, getD}
+use lib.ListN.{length}
 use Rattle.base.specs.Lists.{Bytes, added}
 use Rattle.base.proofs.Lists.{_◂_}
 use Rattle.wire.specs.Number.{beMore, beOf, beBytes}

@@ -1,5 +1,4 @@
 -- `aes128::Aes128Key::from_slice` meets its contract. Assumes nothing.
-use lib.ListN.{length}
 use Rattle.aes128.specs.Key.{keyRead, keyFromSlice}
 use Rattle.wire.proofs.Laws.Lay.{put-whole}
 use borrow.Author.Needs.{needs}

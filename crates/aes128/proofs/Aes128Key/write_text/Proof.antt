@@ -1,6 +1,6 @@
 -- `aes128::Aes128Key::write_text` meets its contract. Assumes nothing.
 use lib.ListN.{length}
-use Prim.Native.Nat.{_<_, _≤_, _*_}
+use Prim.Native.Nat.{_<_, _≤_}
 use Rattle.base.proofs.Answers.{room, no-room}
 use Rattle.base.specs.declared.Written.the-variants.{Bytes}
 use Rattle.wire.specs.Hex.{hexText}

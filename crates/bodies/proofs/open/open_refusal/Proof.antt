@@ -1,6 +1,5 @@
 -- `bodies::open::open_refusal` meets its contract. Assumes nothing.
 use Rattle.base.proofs.Picks.{picks}
-use borrow.Author.Needs.{needs}
 use Rattle.bodies.proofs.open.open_refusal.Statement.{statement}
 use Rattle.bodies.proofs.open.open_refusal.Tie as tie
 

@@ -1,6 +1,5 @@
 -- `bodies::open::read_sealed` meets its contract. Assumes nothing.
-use mathlib.Core.Path.{sym, ap, _∙_}
-use denote.Ref.{now}
+use mathlib.Core.Path.{ap, _∙_}
 use borrow.Author.Tests.{lt-ltb, le-ltb}
 use Rattle.items.specs.Items.{openingOf}
 use Rattle.bodies.specs.declared.body.Held.the-variants.{Frame as InFrame}

@@ -1,6 +1,5 @@
 -- `bodies::write::cap` meets its contract. Assumes nothing.
 use borrow.Author.Tests.{lt-ltb, le-ltb}
-use borrow.Author.Needs.{needs}
 use Rattle.bodies.proofs.write.cap.Statement.{statement}
 use Rattle.bodies.proofs.write.cap.Tie as tie
 

@@ -2,7 +2,6 @@
 use Rattle.base.proofs.Picks.{picks}
 use Rattle.items.specs.Items.{badBeat}
 use borrow.Author.Tests.{eq-eqb, ne-eqb}
-use borrow.Author.Needs.{needs}
 use Rattle.items.proofs.item.bad_beat.Statement.{statement}
 use Rattle.items.proofs.item.bad_beat.Tie as tie
 

@@ -2,7 +2,6 @@
 use Rattle.base.proofs.Picks.{picks}
 use Rattle.items.specs.Items.{kindOf}
 use borrow.Author.Tests.{eq-eqb, ne-eqb}
-use borrow.Author.Needs.{needs}
 use Rattle.items.proofs.item.kind_of.Statement.{statement}
 use Rattle.items.proofs.item.kind_of.Tie as tie
 

@@ -1,7 +1,6 @@
 -- `mesh_c::record::add_record` meets its contract. Assumes nothing.
-use mathlib.Core.Path.{_≡_, sym, ap, _∙_}
+use mathlib.Core.Path.{sym, ap, _∙_}
 use denote.Ref.{now}
-use Rattle.fields.specs.declared.header.TypeRead.{TypeRead}
 use Rattle.mesh_c.specs.Face.{cacheAnswer, cacheWords}
 use borrow.Author.Needs.{needs}
 use Rattle.mesh_c.proofs.record.add_record.Statement.{statement}

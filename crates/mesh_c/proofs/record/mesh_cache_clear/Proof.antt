@@ -1,5 +1,5 @@
 -- `mesh_c::record::mesh_cache_clear` meets its contract. Assumes nothing.
-use mathlib.Core.Path.{_≡_, sym, ap, _∙_}
+use mathlib.Core.Path.{sym, ap, _∙_}
 use Rattle.mesh_c.specs.Face.{checkedNumber}
 use borrow.Author.Needs.{needs}
 use Rattle.mesh_c.proofs.record.mesh_cache_clear.Statement.{statement}

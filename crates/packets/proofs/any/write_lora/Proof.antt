@@ -1,7 +1,4 @@
 -- `packets::any::write_lora` meets its contract. Assumes nothing.
-use lib.ListN.{length}
-use mathlib.Core.List.{List}
-use Prim.Native.Nat.{ℕ}
 use Rattle.base.specs.Answers.{bytes}
 use Rattle.payloads.proofs.Steps.{same-frame}
 use Rattle.packets.proofs.Steps.{lora-outside, lora-long, lora-bytes}

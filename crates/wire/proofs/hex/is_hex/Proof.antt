@@ -1,8 +1,7 @@
 -- `wire::hex::is_hex` meets its contract. Assumes nothing.
 use lib.ListN.{length, drop, getD}
 use lib.Seq.{drop-length}
-use mathlib.Core.Bool.{true}
-use Prim.Native.Nat.{_-_, _+_, _≤_, _<_}
+use Prim.Native.Nat.{_-_, _≤_, _<_}
 use Rattle.wire.specs.Hex.{allHex, nibbleOf}
 use Rattle.wire.proofs.Laws.Hex.{hex-more, hex-stop}
 use borrow.Author.Needs.{needs}

@@ -1,5 +1,5 @@
 -- `wire::hex::pair` meets its contract. Assumes nothing.
-use Rattle.wire.specs.Hex.{pairOf, nibbleOf}
+use Rattle.wire.specs.Hex.{pairOf}
 use Prim.Native.Nat.{ℕ, _+_, _*_, _%_}
 use borrow.Author.Needs.{needs}
 use mathlib.Core.Path.{ap₂}

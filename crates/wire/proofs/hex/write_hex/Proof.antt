@@ -1,7 +1,6 @@
 -- `wire::hex::write_hex` meets its contract. Assumes nothing.
-use lib.ListN.{length, set, length-set}
-use Prim.Native.Nat.{ℕ, _-_, _+_, _*_, _≤_, _<_}
-use native.Mathlib.Nat.{add-assoc}
+use lib.ListN.{length, length-set}
+use Prim.Native.Nat.{_-_, _+_, _*_, _≤_, _<_}
 use Rattle.wire.specs.Hex.{hexText}
 use Rattle.wire.proofs.Laws.Hex.{hex-length, hex-even, hex-odd}
 use Rattle.wire.proofs.Laws.Lay.{Laying, laying-none, laying-more, laying-done, put-none}

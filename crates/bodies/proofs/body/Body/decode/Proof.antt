@@ -1,5 +1,5 @@
 -- `bodies::body::Body::decode` meets its contract. Assumes nothing.
-use mathlib.Core.Path.{refl, ap, ap₂, _∙_}
+use mathlib.Core.Path.{ap, ap₂, _∙_}
 use mathlib.Core.List.{List}
 use Prim.Native.Nat.{ℕ}
 use lib.ListN.{length}

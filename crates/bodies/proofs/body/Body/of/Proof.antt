@@ -1,6 +1,5 @@
 -- `bodies::body::Body::of` meets its contract. Assumes nothing.
 use borrow.Author.Tests.{eq-eqb, ne-eqb}
-use borrow.Author.Needs.{needs}
 use Rattle.bodies.proofs.body.Body.of.Statement.{statement}
 use Rattle.bodies.proofs.body.Body.of.Tie as tie
 

@@ -1,6 +1,5 @@
 -- `bodies::open::Opened::by` meets its contract. Assumes nothing.
 use borrow.Author.Tests.{eq-eqb, ne-eqb}
-use borrow.Author.Needs.{needs}
 use Rattle.bodies.proofs.open.Opened.by.Statement.{statement}
 use Rattle.bodies.proofs.open.Opened.by.Tie as tie
 

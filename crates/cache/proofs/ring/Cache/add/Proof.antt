@@ -40,7 +40,6 @@ use denote.Exit.{yes}
 use Rattle.cache.specs.declared.ring.Cache.{Cache}
 use Rattle.cache.specs.declared.record.PayloadCache.{PayloadCache}
 use Rattle.cache.specs.declared.ring.Added.{Added}
-use Rattle.cache.specs.declared.ring.CacheAnswer.{CacheAnswer}
 use Rattle.cache.specs.Cache.{addedOf}
 use Rattle.base.proofs.Says.{says-both}
 use Rattle.cache.proofs.ring.Cache as T

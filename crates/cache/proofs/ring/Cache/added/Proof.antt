@@ -1,10 +1,10 @@
 -- `cache::ring::Cache::added` meets its contract. Assumes nothing.
-use mathlib.Core.Path.{_≡_, refl, sym, _∙_, ap}
+use mathlib.Core.Path.{_≡_, sym, _∙_, ap}
 use Prim.Native.Nat.{ℕ, _-_, _%_, _≤_, _<_}
 use native.Mathlib.Omega.{arith}
 use borrow.Author.Needs.{needs}
 use lib.ListN.{length, take}
-use Rattle.cache.specs.Cache.{has, countIn, pushedOf}
+use Rattle.cache.specs.Cache.{has}
 use Rattle.cache.proofs.Steps.{Looked, looked-none, looked-more, has-there, added-none, added-large, added-seen, added-new, count-small, place-small, slots-long}
 use Rattle.cache.proofs.ring.Cache.added.Statement.{statement}
 use Rattle.cache.proofs.ring.Cache.added.Tie as tie

@@ -1,5 +1,4 @@
 -- `events::stamped::CommandPayload::opened` meets its contract. Assumes nothing.
-use Rattle.events.specs.Seal.{commandOpened}
 use borrow.Author.Needs.{needs}
 use Rattle.events.proofs.stamped.CommandPayload.opened.Statement.{statement}
 use Rattle.events.proofs.stamped.CommandPayload.opened.Tie as tie

@@ -1,5 +1,4 @@
 -- `events::stamped::EventPayload::decrypt` meets its contract. Assumes nothing.
-use lib.ListN.{length}
 use mathlib.Core.Path.{ap, _∙_}
 use Rattle.events.specs.Seal.{eventOpened}
 use borrow.Author.Needs.{needs}

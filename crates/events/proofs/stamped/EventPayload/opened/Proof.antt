@@ -1,5 +1,4 @@
 -- `events::stamped::EventPayload::opened` meets its contract. Assumes nothing.
-use Rattle.events.specs.Seal.{eventOpened}
 use borrow.Author.Needs.{needs}
 use Rattle.events.proofs.stamped.EventPayload.opened.Statement.{statement}
 use Rattle.events.proofs.stamped.EventPayload.opened.Tie as tie

@@ -2,9 +2,9 @@
 use lib.ListN.{length}
 use mathlib.Core.List.{List, _++_}
 use Prim.Native.Nat.{ℕ}
+use Rattle.base.proofs.Lists.{listed}
 use Rattle.wire.proofs.Laws.Number.{be-length}
 use Rattle.events.specs.Write.{stamp}
-use Rattle.payloads.proofs.Steps.{listed}
 use borrow.Author.Needs.{needs}
 use mathlib.Core.Path.{ap, ap₂, _∙_}
 use Rattle.events.proofs.stamped.Stamped.head.Statement.{statement}

@@ -1,7 +1,6 @@
 -- `events::stamped::Stamped::write` meets its contract. Assumes nothing.
 use lib.ListN.{length}
 use mathlib.Core.Path.{ap, _∙_}
-use native.Mathlib.Omega.{arith}
 use Rattle.wire.proofs.Laws.Lay.{put-length}
 use Rattle.events.proofs.Steps.{write-refused, write-long, write-short, write-done}
 use borrow.Author.Needs.{needs}

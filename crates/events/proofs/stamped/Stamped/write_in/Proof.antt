@@ -1,7 +1,6 @@
 -- `events::stamped::Stamped::write_in` meets its contract. Assumes nothing.
 use lib.ListN.{length}
 use mathlib.Core.Path.{ap, _∙_}
-use native.Mathlib.Omega.{arith}
 use borrow.Author.Tests.{not-true, not-false}
 use Rattle.wire.proofs.Laws.Lay.{put-length}
 use Rattle.events.proofs.Steps.{in-refused, in-no-mic, in-long, in-short, in-done}

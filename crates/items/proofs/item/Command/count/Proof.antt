@@ -2,7 +2,7 @@
 use Rattle.base.proofs.Picks.{picks}
 use Rattle.items.specs.Items.{countsOf}
 use Rattle.items.specs.declared.count.OpeningRead.the-variants.{Opening as Counted}
-use borrow.Author.Tests.{lt-ltb, le-ltb}
+use borrow.Author.Tests.{le-ltb}
 use mathlib.Core.Path.{ap}
 use borrow.Author.Needs.{needs}
 use Rattle.items.proofs.item.Command.count.Statement.{statement}

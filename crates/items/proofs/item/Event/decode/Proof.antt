@@ -1,7 +1,7 @@
 -- `items::item::Event::decode` meets its contract. Assumes nothing.
 use Rattle.base.proofs.Picks.{picks}
 use Rattle.items.specs.Items.{decodeOf}
-use borrow.Author.Tests.{lt-ltb, le-ltb}
+use borrow.Author.Tests.{le-ltb}
 use borrow.Author.Needs.{needs}
 use Rattle.items.proofs.item.Event.decode.Statement.{statement}
 use Rattle.items.proofs.item.Event.decode.Tie as tie

@@ -2,13 +2,14 @@
 use lib.ListN.{length}
 use mathlib.Core.List.{List, _++_}
 use Prim.Native.Nat.{ℕ}
+use Rattle.base.proofs.Lists.{listed}
 use Rattle.base.specs.Answers.{bytes}
 use Rattle.base.proofs.Answers.{accepted-is, refused-is}
 use Rattle.wire.proofs.Laws.Number.{be-length}
 use Rattle.fields.specs.Meta.{upWire, upBytes}
 use Rattle.fields.specs.declared.meta.UplinkBytes.{UplinkBytes}
 use Rattle.payloads.specs.Write.{uplinkHead}
-use Rattle.payloads.proofs.Steps.{listed, head-refused, head-accepted}
+use Rattle.payloads.proofs.Steps.{head-refused, head-accepted}
 use Rattle.payloads.proofs.Laws.{up-length}
 use borrow.Author.Needs.{needs}
 use mathlib.Core.Path.{_≡_, sym, ap, ap₂, _∙_}
