@@ -92,6 +92,35 @@ fn opened() {
     assert_eq!(work, [BEFORE; 13]);
 }
 
+/// An edited frame validates, is known by the same record and opens to the same items; several edits are the last one alone.
+#[test]
+fn over_more_hops() {
+    let keys = keys();
+    let path = vec![RelayPath { relay_id: RelayId([9, 9, 9, 9]), rssi: -3, snr: 4 }];
+    let frame = event(60, vec![Item::Heartbeat(path), Item::Proprietary(130, vec![1, 2])]);
+    let look = |frame: &[u8]| {
+        let mut packet = MeshPacket::from_slice(frame).unwrap();
+        assert_eq!(packet.validate_mic(&keys.signing), Ok(true));
+        let (record, mut work) = (packet.record().unwrap(), [0; PAYLOAD_MOST]);
+        let opening = packet.decrypt(&keys.encryption, &mut work).unwrap();
+        let Payload::Event(e) = &packet.payload else { panic!() };
+        let found: Vec<Item> = e.items().unwrap().map(|f| if let Found::Kept(k) = f { k.to_item() } else { panic!() }).collect();
+        (record, opening, found)
+    };
+    let mut several = frame.clone();
+    for hop_count in [2, 8, 0, 5, 9, 1, 3] {
+        let before = several.clone();
+        if set_hop_count(&mut several, hop_count, &keys.signing).is_err() {
+            assert_eq!(several, before);
+            continue;
+        }
+        let mut alone = frame.clone();
+        set_hop_count(&mut alone, hop_count, &keys.signing).unwrap();
+        assert_eq!(several, alone);
+        assert_eq!(look(&several), look(&frame));
+    }
+}
+
 #[test]
 fn not_valid() {
     let keys = keys();

@@ -3,7 +3,7 @@ use Prim.Native.Nat.{ℕ}
 use mathlib.Core.Bool.{Bool, true, false}
 use mathlib.Core.List.{List, [], _∷_}
 use lib.Dec.{eqb}
-use lib.IntN.{pos}
+use lib.IntN.{ℤ, pos}
 use Rattle.base.specs.Pick.{pick}
 use Rattle.wire.specs.declared.run.Run.{Run}
 use Rattle.fields.specs.Header.{codeOf, typeRead}
@@ -216,6 +216,16 @@ unfoldable pub numbersOf : Flat → List ℕ
 numbersOf f =
     f .kind ∷ f .«payload_type» ∷ f .«hop_count» ∷ bit (f .«has_mic») ∷ f .mic ∷ f .«relay_id» ∷ f .«uplink_id» ∷ f .dr
     ∷ f .channel ∷ f .frequency ∷ f .«tx_power» ∷ f .delay ∷ f .timestamp ∷ f .body ∷ f .start ∷ f .len ∷ []
+
+-- what is stored of a packet that was read
+abbrev pub numbersIn : Packet → List ℕ
+numbersIn p = numbersOf (flatOf p)
+
+abbrev pub rssiIn : Packet → ℤ
+rssiIn p = flatOf p .rssi
+
+abbrev pub snrIn : Packet → ℤ
+snrIn p = flatOf p .snr
 
 -- where its payload lies
 abbrev pub placed : Flat → List ℕ

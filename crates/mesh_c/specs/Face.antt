@@ -3,7 +3,9 @@
 use Prim.Native.Nat.{ℕ}
 use mathlib.Core.Bool.{Bool, false}
 use mathlib.Core.List.{List, [], _∷_}
+use lib.Dec.{ltb}
 use lib.IntN.{ℤ}
+use Rattle.base.specs.Pick.{pick}
 use Rattle.base.specs.Answers.{Answer, value, number, Frame, refused}
 use Rattle.base.specs.declared.Checked.{Checked}
 use Rattle.base.specs.declared.Checked.the-variants.{Accepted, Refused}
@@ -53,7 +55,7 @@ use Rattle.packets.specs.declared.any.PacketRead.the-variants.{Packet as Packet
 use Rattle.mic.specs.Mic.{setMic, validateMic}
 use Rattle.mic.specs.declared.Validated.{Validated}
 use Rattle.mic.specs.declared.Validated.the-variants.{Refused as NotValidated}
-use Rattle.flat.specs.Flat.{bit, flatOf, flatOfMesh, numbersOf, placed, meshFrom, packetFrom}
+use Rattle.flat.specs.Flat.{bit, flatOfMesh, numbersOf, placed, meshFrom, packetFrom}
 use Rattle.flat.specs.declared.Flat.{Flat}
 use Rattle.cache.specs.Cache.{rec, recordOf}
 use Rattle.cache.specs.declared.record.PayloadCache.{PayloadCache}
@@ -144,16 +146,7 @@ flatBy kind type hops has mic relay id dr rssi snr channel freq power delay time
   len = len;
 }
 
--- what is stored of a packet that was read
-abbrev pub numbersIn : Packet → List ℕ
-numbersIn p = numbersOf (flatOf p)
-
-abbrev pub rssiIn : Packet → ℤ
-rssiIn p = flatOf p .rssi
-
-abbrev pub snrIn : Packet → ℤ
-snrIn p = flatOf p .snr
-
+-- what is stored of a mesh packet that was read, as `numbersIn` of any
 abbrev pub meshNumbers : MeshPacket → List ℕ
 meshNumbers p = numbersOf (flatOfMesh p)
 
@@ -263,6 +256,13 @@ recordList r = codeOf (r .«p_type») ∷ r .«uplink_id» ∷ r .timestamp ∷ 
 
 abbrev pub recordIn : MeshPacket → List ℕ
 recordIn p = recordList (recordOf p)
+
+-- of it, by the code of the packet's kind
+unfoldable pub knownId : ℕ → ℕ → ℕ
+knownId kind id = pick (ltb kind 2) id 0
+
+unfoldable pub knownTime : ℕ → ℕ → ℕ
+knownTime kind time = pick (ltb kind 2) 0 time
 
 -- a record of numbers added to a cache in words: 29 of its type, then 24
 abbrev pub cacheAnswer : List ℕ → ℕ → ℕ → ℕ → TypeRead → CacheAnswer

@@ -11,13 +11,13 @@ ghost use Rattle.packets.specs.Write.{payloadWire};
 ghost use Rattle.packets.specs.Seal.{meshOpenedSays};
 ghost use Rattle.mic.specs.Mic.{validSays};
 ghost use Rattle.hops.specs.Hops.{hopEdit, leaves};
-ghost use Rattle.flat.specs.Flat.{bit, meshFrom};
-ghost use Rattle.mesh_c.specs.Face.{checkedNumber, asItIs, flatBy, numbersIn, rssiIn, snrIn, meshNumbers, meshRssi, meshSnr, micIn, placeIn, flatFrame, flatBody, flatSigned, flatValid, flatSealed, flatSeal, flatDecrypted, flatWork, flatDecoded, openedNumber, countsLeft, placeLeft, bare, bodyOf, bodyBy, recordList, recordIn};
+ghost use Rattle.flat.specs.Flat.{bit, meshFrom, numbersIn, rssiIn, snrIn};
+ghost use Rattle.mesh_c.specs.Face.{checkedNumber, asItIs, flatBy, meshNumbers, meshRssi, meshSnr, micIn, placeIn, flatFrame, flatBody, flatSigned, flatValid, flatSealed, flatSeal, flatDecrypted, flatWork, flatDecoded, openedNumber, countsLeft, placeLeft, bare, bodyOf, bodyBy, knownId, knownTime, recordIn};
 use crate::item::counts_of;
 use aes128::Aes128Key;
 use base::Checked;
+use base::Refusal;
 use base::Written;
-use cache::PayloadCache;
 use events::CommandPayload;
 use events::CommandRead;
 use events::EventPayload;
@@ -33,10 +33,10 @@ use hops::set_hop_count;
 use mic::Validated;
 use mic::set_mic;
 use mic::validate_mic;
+use numbers::read_numbers;
 use packets::MeshOpened;
 use packets::MeshPacket;
 use packets::MeshRead;
-use packets::Packet;
 use packets::PacketRead;
 use packets::Payload;
 use payloads::DownlinkPayload;
@@ -59,18 +59,7 @@ pub extern "C" fn mesh_read(
     ensures rssi { λ _. ⌜ now (rssi .exit) ≡ leftBy rssiIn (now (rssi .entry)) (packetSays (packetOf (now (frame .entry)))) ⌝ }
     ensures snr { λ _. ⌜ now (snr .exit) ≡ leftBy snrIn (now (snr .entry)) (packetSays (packetOf (now (frame .entry)))) ⌝ }
 {
-    match Packet::from_slice(frame) {
-        PacketRead::Refused(n) => n,
-        PacketRead::Packet(p) => {
-            let f = Flat::of(p);
-            *numbers = f.numbers();
-            let strength = f.rssi;
-            let ratio = f.snr;
-            *rssi = strength;
-            *snr = ratio;
-            0
-        }
-    }
+    read_numbers(frame, numbers, rssi, snr)
 }
 
 // Where an answer is a mesh packet: its numbers, or nothing changed.
@@ -848,16 +837,23 @@ pub extern "C" fn mesh_decode<'a>(
 
 // ---- the duplicate record
 
-fn put_record(r: PayloadCache, numbers: &mut [u64; 4])
-    ensures { λ _. ⌜ now (numbers .exit) ≡ recordList r ⌝ }
+// The id is 0 of an event and a command, the timestamp of an uplink and a downlink.
+fn known_id(kind: u8, uplink_id: u16) -> u16
+    ensures { λ r. ⌜ r ≡ knownId kind «uplink_id» ⌝ }
 {
-    let p_type = r.p_type;
-    *numbers = [
-        from_u8(p_type.to_byte()),
-        from_u16(r.uplink_id),
-        from_u32(r.timestamp),
-        from_u32(r.relay_id),
-    ];
+    if kind < PayloadType::EVENT {
+        return uplink_id;
+    }
+    0
+}
+
+fn known_time(kind: u8, timestamp: u32) -> u32
+    ensures { λ r. ⌜ r ≡ knownTime kind timestamp ⌝ }
+{
+    if kind < PayloadType::EVENT {
+        return 0;
+    }
+    timestamp
 }
 
 // What the duplicate cache knows a packet by: type, uplink id, timestamp and relay id; 29.
@@ -886,31 +882,17 @@ pub extern "C" fn mesh_record(
     ensures answer { λ r. ⌜ r ≡ numberIn (meshSays (meshFrom (flatBy kind «payload_type» «hop_count» «has_mic» mic «relay_id» «uplink_id» dr rssi snr channel frequency «tx_power» delay timestamp body start len))) ⌝ }
     ensures known { λ _. ⌜ now (known .exit) ≡ leftBy recordIn (now (known .entry)) (meshSays (meshFrom (flatBy kind «payload_type» «hop_count» «has_mic» mic «relay_id» «uplink_id» dr rssi snr channel frequency «tx_power» delay timestamp body start len))) ⌝ }
 {
-    let f = Flat {
-        kind,
-        payload_type,
-        hop_count,
-        has_mic,
-        mic,
-        relay_id,
-        uplink_id,
-        dr,
-        rssi,
-        snr,
-        channel,
-        frequency,
-        tx_power,
-        delay,
-        timestamp,
-        body,
-        start,
-        len,
-    };
-    match f.mesh() {
-        MeshRead::Refused(n) => n,
-        MeshRead::Mesh(p) => {
-            put_record(PayloadCache::from_packet(p), known);
-            0
-        }
+    if PayloadType::COMMAND < kind {
+        return Refusal::TYPE_LARGE;
     }
+    if PayloadType::COMMAND < payload_type {
+        return Refusal::TYPE_LARGE;
+    }
+    *known = [
+        from_u8(payload_type),
+        from_u16(known_id(kind, uplink_id)),
+        from_u32(known_time(kind, timestamp)),
+        from_u32(relay_id),
+    ];
+    0
 }

@@ -1,30 +1,21 @@
 -- `mesh_c::frame::mesh_record` meets its contract. Assumes nothing.
-use mathlib.Core.Path.{sym, ap, _∙_}
-use mir.Facts.{toZ-ofZ}
-use denote.Ref.{now}
-use Rattle.base.specs.Answers.{numberIn, leftBy}
-use Rattle.packets.specs.Read.{meshSays}
-use Rattle.packets.specs.declared.mesh.MeshRead.{MeshRead}
-use Rattle.mesh_c.specs.Face.{recordList, recordIn}
+use mathlib.Core.Path.{_∙_}
+use Rattle.mesh_c.proofs.Known.{no-kind, no-header, known}
 use borrow.Author.Needs.{needs}
 use Rattle.mesh_c.proofs.frame.mesh_record.Statement.{statement}
 use Rattle.mesh_c.proofs.frame.mesh_record.Tie as tie
 
 returns : tie.Need-returns
 returns c =
-    let a = c .before .before .before .before .args in
-    let e = sym (c .before .n .given .1) ∙ rw (toZ-ofZ (c .before .before .before .before .fits .rssi), toZ-ofZ (c .before .before .before .before .fits .snr)) at (c .before .before .before .mesh .ensures) in (
-      ap (λ (m : MeshRead). numberIn (meshSays m)) e,
-      ap (λ (m : MeshRead). leftBy recordIn (now (a .known)) (meshSays m)) e,
-    )
+    no-kind _ _ (c .if1 .taken)
 
 returns-2 : tie.Need-returns-2
 returns-2 c =
-    let a = c .before .before .before .before .before .before .before .args in
-    let e = sym (c .before .before .before .before .p .given .1) ∙ rw (toZ-ofZ (c .before .before .before .before .before .before .before .fits .rssi), toZ-ofZ (c .before .before .before .before .before .before .before .fits .snr)) at (c .before .before .before .before .before .before .mesh .ensures) in (
-      ap (λ (m : MeshRead). numberIn (meshSays m)) e,
-      c .put-record .ensures ∙ ap recordList (c .before .before .from-packet .ensures) ∙ ap (λ (m : MeshRead). leftBy recordIn (now (a .known)) (meshSays m)) e,
-    )
+    no-header _ _ (c .before .if1 .left) (c .if2 .taken)
+
+returns-3 : tie.Need-returns-3
+returns-3 c =
+    known _ _ (c .before .before .before .before .before .before .before .before .if1 .left) (c .before .before .before .before .before .before .before .if2 .left) _ _ _ _ (c .before .before .before .before .before .before .from-u8 .ensures) (c .before .before .before .before .from-u16 .ensures ∙ c .before .before .before .before .before .known-id .ensures) (c .before .before .from-u32 .ensures ∙ c .before .before .before .known-time .ensures) (c .before .from-u322 .ensures)
 
 pub mesh-record-spec : {M : Type 1} → statement M
-mesh-record-spec = tie.close (tie.spec (λ c κs. search needs) (λ c. search needs) (λ c. search needs) (λ c κs. search needs) (λ c κs. search needs) returns returns-2)
+mesh-record-spec = tie.close (tie.spec returns returns-2 (λ c κs. search needs) (λ c κs. search needs) (λ c κs. search needs) (λ c κs. search needs) (λ c κs. search needs) (λ c κs. search needs) returns-3)

@@ -1,0 +1,26 @@
+-- `numbers::down_numbers` meets its contract. Assumes nothing.
+use mathlib.Core.Path.{refl, ap₂}
+use mathlib.Core.List.{_∷_}
+use Rattle.flat.specs.Flat.{numbersOf}
+use borrow.Author.Needs.{needs}
+use Rattle.numbers.proofs.down_numbers.Statement.{statement}
+use Rattle.numbers.proofs.down_numbers.Tie as tie
+
+returns : tie.Need-returns
+unfolding numbersOf
+returns c =
+    ap₂ _∷_ refl
+    (ap₂ _∷_ refl
+    (ap₂ _∷_ (c .before .before .before .before .before .before .before .from-u8 .ensures)
+    (ap₂ _∷_ refl
+    (ap₂ _∷_ (c .before .before .before .before .before .before .from-u32 .ensures)
+    (ap₂ _∷_ (c .before .before .before .before .before .from-u322 .ensures)
+    (ap₂ _∷_ (c .before .before .before .before .from-u16 .ensures)
+    (ap₂ _∷_ (c .before .before .before .from-u82 .ensures)
+    (ap₂ _∷_ refl
+    (ap₂ _∷_ (c .before .before .from-u323 .ensures)
+    (ap₂ _∷_ (c .before .from-u83 .ensures)
+    (ap₂ _∷_ (c .from-u84 .ensures) refl)))))))))))
+
+pub down-numbers-spec : {M : Type 1} → statement M
+down-numbers-spec = tie.close (tie.spec (λ c κs. search needs) (λ c κs. search needs) (λ c κs. search needs) (λ c κs. search needs) (λ c κs. search needs) (λ c κs. search needs) (λ c κs. search needs) (λ c κs. search needs) returns)

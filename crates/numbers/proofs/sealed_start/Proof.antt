@@ -1,0 +1,18 @@
+-- `numbers::sealed_start` meets its contract. Assumes nothing.
+use mathlib.Core.Path.{sym, ap}
+use Rattle.bodies.specs.declared.body.Body.{Body}
+use Rattle.flat.specs.Flat.{placeOf}
+use Rattle.numbers.proofs.Steps.{sealed-none, sealed-some}
+use Rattle.numbers.proofs.sealed_start.Statement.{statement}
+use Rattle.numbers.proofs.sealed_start.Tie as tie
+
+returns : tie.Need-returns
+returns c =
+    sym (ap (λ (b : Body). placeOf b .start) (sealed-none _ (c .if1 .taken)))
+
+returns-2 : tie.Need-returns-2
+returns-2 c =
+    sym (ap (λ (b : Body). placeOf b .start) (sealed-some _ (c .if1 .left)))
+
+pub sealed-start-spec : {M : Type 1} → statement M
+sealed-start-spec = tie.close (tie.spec returns returns-2)

@@ -1,0 +1,59 @@
+-- What each type's frame gives, as the struct of its numbers: by the values that are taken from it, and by the frame. Assumes nothing.
+use Prim.Native.Nat.{ℕ, _+_, _-_, _%_}
+use mathlib.Core.Bool.{true}
+use mathlib.Core.List.{List, [], _∷_}
+use lib.ListN.{length, getD}
+use Rattle.fields.specs.Meta.{upOf, downOf}
+use Rattle.fields.specs.declared.header.PayloadType.the-variants.{Uplink, Downlink}
+use Rattle.fields.specs.declared.meta.UplinkMetadata.{UplinkMetadata}
+use Rattle.fields.specs.declared.meta.DownlinkMetadata.{DownlinkMetadata}
+use Rattle.bodies.specs.Body.{bodyOf}
+use Rattle.payloads.specs.Read.{fourAt}
+use Rattle.flat.specs.Flat.{placeOf, headOf, ofUplink, ofDownlink, ofStamped, ofLora}
+use Rattle.flat.specs.declared.Flat.{Flat}
+
+-- ---- by the values: hop count, MIC, and so on
+
+abbrev pub upFlat : ℕ → ℕ → UplinkMetadata → ℕ → ℕ → Flat
+upFlat hops mic m relay len =
+    ofUplink (headOf (record { «payload_type» = Uplink; «hop_count» = hops }) true mic)
+    (record { metadata = m; «relay_id» = relay; «phy_payload» = record { start = 10; len = len } })
+
+abbrev pub downFlat : ℕ → ℕ → DownlinkMetadata → ℕ → ℕ → Flat
+downFlat hops mic m relay len =
+    ofDownlink (headOf (record { «payload_type» = Downlink; «hop_count» = hops }) true mic)
+    (record { metadata = m; «relay_id» = relay; «phy_payload» = record { start = 11; len = len } })
+
+-- an event or a command, by its code
+abbrev pub stampedFlat : ℕ → ℕ → ℕ → ℕ → ℕ → ℕ → Flat
+stampedFlat kind hops mic time relay len =
+    ofStamped kind (record { «payload_type» = kind; «hop_count» = hops; «has_mic» = true; mic = mic }) time relay (bodyOf 9 len)
+
+abbrev pub sealedCode : ℕ → ℕ
+sealedCode len = placeOf (bodyOf 9 len) .body
+
+abbrev pub sealedStart : ℕ → ℕ
+sealedStart len = placeOf (bodyOf 9 len) .start
+
+abbrev pub loraFlat : ℕ → Flat
+loraFlat len = ofLora (record { start = 0; len = len })
+
+-- ---- by the frame
+
+abbrev pub hopsIn : List ℕ → ℕ
+hopsIn s = getD s 0 0 % 8 + 1
+
+abbrev pub micIn : List ℕ → ℕ
+micIn s = fourAt s (length s - 4)
+
+abbrev pub upIn : List ℕ → Flat
+upIn s =
+    upFlat (hopsIn s) (micIn s) (upOf (getD s 1 0 ∷ getD s 2 0 ∷ getD s 3 0 ∷ getD s 4 0 ∷ getD s 5 0 ∷ [])) (fourAt s 6) (length s - 14)
+
+abbrev pub downIn : List ℕ → Flat
+downIn s =
+    downFlat (hopsIn s) (micIn s) (downOf (getD s 1 0 ∷ getD s 2 0 ∷ getD s 3 0 ∷ getD s 4 0 ∷ getD s 5 0 ∷ getD s 6 0 ∷ [])) (fourAt s 7)
+    (length s - 15)
+
+abbrev pub stampedIn : ℕ → List ℕ → Flat
+stampedIn kind s = stampedFlat kind (hopsIn s) (micIn s) (fourAt s 1) (fourAt s 5) (length s - 13)
