@@ -72,10 +72,10 @@ unfolding fixed
 six-of a b c d e f v = ap (λ (w : List ℕ). a ∷ b ∷ c ∷ d ∷ e ∷ f % 64 ∷ w) (value-on true 0 v)
 
 -- the one at a place, as it is written
-abbrev pub entryAt : List ℕ → ℕ → List ℕ
-entryAt v i = getD v i 0 ∷ getD v (i + 1) 0 ∷ getD v (i + 2) 0 ∷ getD v (i + 3) 0 ∷ getD v (i + 4) 0 ∷ getD v (i + 5) 0 % 64 ∷ []
+abbrev pub sixFrom : List ℕ → ℕ → List ℕ
+sixFrom v i = getD v i 0 ∷ getD v (i + 1) 0 ∷ getD v (i + 2) 0 ∷ getD v (i + 3) 0 ∷ getD v (i + 4) 0 ∷ getD v (i + 5) 0 % 64 ∷ []
 
-pub entry-ahead : (v : List ℕ) (i : ℕ) → i + 6 ≤ length v → imap (fixed true) 0 (drop i v) ≡ entryAt v i ++ imap (fixed true) 0 (drop (i + 6) v)
+pub entry-ahead : (v : List ℕ) (i : ℕ) → i + 6 ≤ length v → imap (fixed true) 0 (drop i v) ≡ sixFrom v i ++ imap (fixed true) 0 (drop (i + 6) v)
 entry-ahead v i h = ap (imap (fixed true) 0) six ∙ six-of _ _ _ _ _ _ (drop (i + 6) v)
   where
     -- a byte, and the place after it

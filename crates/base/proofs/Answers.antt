@@ -4,12 +4,12 @@ use mathlib.Core.Bool.{Bool, true, false}
 use mathlib.Core.List.{List, _++_}
 use Prim.Native.Nat.{ℕ, _≤_, _<_}
 use native.Mathlib.Omega.{arith}
-use lib.Dec.{ltb}
+use lib.Dec.{ltb, eqb}
 use lib.ListN.{length, drop, length-append, length-drop}
-use borrow.Author.Tests.{lt-ltb, le-ltb, ltb-false}
+use borrow.Author.Tests.{lt-ltb, le-ltb, ltb-false, eq-eqb, ne-eqb, eqb-true}
 use Rattle.base.specs.Pick.{pick}
 use Rattle.base.specs.Numbers.{outputShort}
-use Rattle.base.specs.Answers.{Frame, bytes, refused, checkedOf, bytesOr, answerOf, outOf}
+use Rattle.base.specs.Answers.{Frame, bytes, refused, unlessRefused, checkedOf, bytesOr, answerOf, outOf}
 use Rattle.base.specs.declared.Checked.the-variants.{Accepted, Refused as No}
 use Rattle.base.specs.declared.Written.the-variants.{Bytes, Refused}
 
@@ -41,3 +41,18 @@ accepted-is (refused k) n p = absurd (let z : _≡_ {A = ℕ} 0 1 = cc in omega 
 pub refused-is : (f : Frame) (k : ℕ) → checkedOf f ≡ No k → f ≡ refused k
 refused-is (bytes w) k p = absurd (let z : _≡_ {A = ℕ} 0 1 = cc in omega arith)
 refused-is (refused n) k p = cc
+
+-- ---- what a chain of tests that ends in a number leads to
+
+pub is-refused : (k n : ℕ) (f : Frame) → k ≡ n → (k ≡ 0 → ⊥) → refused k ≡ unlessRefused n f
+is-refused k n f e h = rw (← e) (simp (ne-eqb k 0 h))
+
+pub not-refused : (n : ℕ) (f : Frame) → n ≡ 0 → f ≡ unlessRefused n f
+not-refused n f h = simp (eq-eqb n 0 h)
+
+pub unless-bytes : (n : ℕ) (f : Frame) (w : List ℕ) → unlessRefused n f ≡ bytes w → (n ≡ 0) × (f ≡ bytes w)
+unless-bytes n f w e = by (eqb n 0) refl e
+  where
+    by : (t : Bool) → eqb n 0 ≡ t → pick t f (refused n) ≡ bytes w → (n ≡ 0) × (f ≡ bytes w)
+    by true h q = (eqb-true n 0 h, q)
+    by false h q = let z : _≡_ {A = ℕ} 0 1 = cc in absurd (omega arith)

@@ -1,7 +1,7 @@
 -- What a call answers, in document 01's terms, and what a writer answers and leaves. Assumes nothing.
 use Prim.Native.Nat.{ℕ}
 use mathlib.Core.List.{List, _++_}
-use lib.Dec.{ltb}
+use lib.Dec.{ltb, eqb}
 use lib.ListN.{length, drop, replicate}
 use Rattle.base.specs.Pick.{pick}
 use Rattle.base.specs.Numbers.{outputShort}
@@ -26,6 +26,10 @@ checkedSays checked.Accepted a = value a
 checkedSays (checked.Refused n) a = number n
 
 -- the number of a refusal, and 0 where there is none
+abbrev pub checkedNumber : Checked → ℕ
+checkedNumber checked.Accepted = 0
+checkedNumber (checked.Refused n) = n
+
 abbrev pub numberIn : {A : Type 0} → Answer A → ℕ
 numberIn (value a) = 0
 numberIn (number n) = n
@@ -44,6 +48,10 @@ pub data Frame : Type 0 where
 abbrev pub frameNumber : Frame → ℕ
 frameNumber (bytes w) = 0
 frameNumber (refused n) = n
+
+-- what follows a chain of tests that ends in a number, where that is 0
+abbrev pub unlessRefused : ℕ → Frame → Frame
+unlessRefused n f = pick (eqb n 0) f (refused n)
 
 -- of a call that makes an array: the answer, and beside it the bytes, or n zeros where it refuses
 abbrev pub checkedOf : Frame → Checked

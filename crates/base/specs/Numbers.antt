@@ -97,6 +97,13 @@ outside = 45
 abbrev pub frameMost : ℕ
 frameMost = 8192
 
+-- a frame but for its MIC, a frame's body, and an event's or a command's payload: what is left of the most that a frame may be
+abbrev pub messageMost : ℕ
+messageMost = 8188
+
+abbrev pub bodyMost : ℕ
+bodyMost = 8187
+
 abbrev pub payloadMost : ℕ
 payloadMost = 8179
 

@@ -75,7 +75,9 @@ pub struct Limit;
 
 impl Limit {
     pub const FRAME: usize = 8192;
-    // A payload in the shortest frame around it: header byte, timestamp, relay id and MIC are 13 bytes.
+    // A frame but for its header byte and MIC.
+    pub const BODY: usize = 8187;
+    // An event's or a command's body but for its timestamp and relay id.
     pub const PAYLOAD: usize = 8179;
 
     pub const ITEM: usize = 255;

@@ -15,7 +15,7 @@ use Rattle.base.specs.declared.Written.the-variants.{Bytes, Refused as NotWritt
 use Rattle.wire.specs.Part.{partOf}
 use Rattle.wire.specs.Run.{runRefusal, runBytes}
 use Rattle.wire.specs.declared.run.Run.{Run}
-use Rattle.fields.proofs.Laws.Meta.{not-refused}
+use Rattle.base.proofs.Answers.{not-refused}
 use Rattle.seal.specs.Stream.{sealedOf}
 use Rattle.items.specs.Items.{openingOf}
 use Rattle.bodies.specs.declared.body.Held.the-variants.{Work as InWork}

@@ -6,9 +6,8 @@ use lib.Dec.{eqb}
 use lib.IntN.{ℤ}
 use lib.ListN.{length}
 use Rattle.base.specs.Pick.{pick}
-use Rattle.base.specs.Answers.{Frame, bytes}
+use Rattle.base.specs.Answers.{Frame, bytes, unlessRefused}
 use Rattle.wire.specs.Run.{runRefusal, runBytes}
-use Rattle.fields.specs.Meta.{unlessRefused}
 use Rattle.kept.specs.Kept.{openBytes}
 use Rattle.composed.specs.Composed.{Lists, verdictOf, composedBytes}
 use Rattle.bodies.specs.declared.body.Held.{Held}

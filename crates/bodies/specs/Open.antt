@@ -7,10 +7,9 @@ use lib.Dec.{ltb, eqb}
 use lib.ListN.{length}
 use Rattle.base.specs.Pick.{pick}
 use Rattle.base.specs.Numbers.{frameLong, outputShort, openMany, openOne, payloadMost}
-use Rattle.base.specs.Answers.{Frame, bytes, refused, outOf, Answer, value, number}
+use Rattle.base.specs.Answers.{Frame, bytes, refused, outOf, Answer, value, number, unlessRefused}
 use Rattle.wire.specs.Run.{runRefusal, runBytes}
 use Rattle.wire.specs.declared.run.Run.{Run}
-use Rattle.fields.specs.Meta.{unlessRefused}
 use Rattle.items.specs.Items.{openingOf, nothing}
 use Rattle.items.specs.declared.count.Opening.{Opening}
 use Rattle.seal.specs.Stream.{sealedOf}

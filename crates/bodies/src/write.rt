@@ -6,6 +6,7 @@ ghost use Rattle.composed.specs.Composed.{capped};
 ghost use Rattle.bodies.specs.Body.{lent, bodyRefusal, bodyBytes};
 use crate::body::Body;
 use crate::body::held_in;
+use base::Limit;
 use composed::put_composed;
 use composed::verdict;
 use items::count_items;
@@ -15,7 +16,11 @@ use wire::put_all;
 fn cap(n: usize) -> usize
     ensures { λ r. ⌜ r ≡ capped n ⌝ }
 {
-    if 8192 < n { 8193 } else { n }
+    if Limit::FRAME < n {
+        Limit::FRAME + 1
+    } else {
+        n
+    }
 }
 
 impl Body {

@@ -19,7 +19,7 @@ use Rattle.cache.specs.declared.record.PayloadCache.{PayloadCache}
 use Rattle.cache.specs.declared.ring.Cache.{Cache}
 use Rattle.cache.specs.declared.ring.CacheAnswer.{CacheAnswer}
 use Rattle.cache.specs.declared.ring.CacheAnswer.the-variants.{New, Seen}
-use Rattle.cache.specs.Cache.{sameRecord, headOf, packOf, kindOf, unpackOf, has, push, step, answers, lastOf, answersLast, newOf, countIn, placeIn, pushedOf, addedOf, ringAnswers, contents}
+use Rattle.cache.specs.Cache.{sameRecord, headWord, packOf, typeByCode, unpackOf, has, push, step, answers, lastOf, answersLast, newOf, ringCount, ringPlace, pushedOf, addedOf, ringAnswers, contents}
 use Rattle.cache.proofs.Steps.{has-append, has-there}
 
 cases : (m n : ℕ) → (m < n) ⊎ (n ≤ m)
@@ -39,14 +39,14 @@ and-snd : (a b : Bool) → (a && b) ≡ true → b ≡ true
 and-snd true b e = e
 and-snd false b e = cc
 
-kind-of-code : (t : PayloadType) → kindOf (codeOf t) ≡ t
-kind-of-code Uplink = refl
-kind-of-code Downlink = refl
-kind-of-code Event = refl
-kind-of-code Command = refl
+type-of-code : (t : PayloadType) → typeByCode (codeOf t) ≡ t
+type-of-code Uplink = refl
+type-of-code Downlink = refl
+type-of-code Event = refl
+type-of-code Command = refl
 
 code-one : (t u : PayloadType) → codeOf t ≡ codeOf u → t ≡ u
-code-one t u e = sym (kind-of-code t) ∙ ap kindOf e ∙ kind-of-code u
+code-one t u e = sym (type-of-code t) ∙ ap typeByCode e ∙ type-of-code u
 
 same-eq : (a b : PayloadCache) → sameRecord a b ≡ true → a ≡ b
 unfolding sameRecord
@@ -116,8 +116,8 @@ pub pack-back : (r : PayloadCache) → r .«uplink_id» < 65536 → unpackOf (pa
 unfolding packOf unpackOf
 pack-back r h =
     let t = codeOf (r .«p_type») in
-    let k : kindOf (headOf r / 65536 % 4) ≡ r .«p_type» = ap kindOf (head-code t (r .«uplink_id») (code-small (r .«p_type»)) h) ∙ kind-of-code (r .«p_type») in
-    let u : headOf r % 65536 ≡ r .«uplink_id» = head-id t (r .«uplink_id») h in
+    let k : typeByCode (headWord r / 65536 % 4) ≡ r .«p_type» = ap typeByCode (head-code t (r .«uplink_id») (code-small (r .«p_type»)) h) ∙ type-of-code (r .«p_type») in
+    let u : headWord r % 65536 ≡ r .«uplink_id» = head-id t (r .«uplink_id») h in
     λ n. record { «p_type» = k n; «uplink_id» = u n; timestamp = r .timestamp; «relay_id» = r .«relay_id» }
 
 -- the same words exactly where the records are the same
@@ -177,10 +177,10 @@ unfoldable held : Cache → List PayloadCache
 held c = slice (c .next) (c .len) (c .slots) ++ take (c .next) (c .slots)
 
 module _ (c : Cache) (g : Good c) where
-  count-is : countIn c ≡ c .len
+  count-is : ringCount c ≡ c .len
   count-is = min-eq-left (g .room)
 
-  place-is : placeIn c ≡ c .next
+  place-is : ringPlace c ≡ c .next
   place-is = mod-eq-of-lt (g .next-in)
 
   held-is : contents c ≡ held c
@@ -202,7 +202,7 @@ module _ (c : Cache) (g : Good c) where
       simp (length-append, length-slice (c .next) (c .len) (c .slots) k, length-take-le (c .next) (c .slots) (omega arith)) (omega arith)
 
   -- a record is among the contents where it is among the first places
-  has-held : (r : PayloadCache) → has (take (countIn c) (c .slots)) r ≡ has (contents c) r
+  has-held : (r : PayloadCache) → has (take (ringCount c) (c .slots)) r ≡ has (contents c) r
   unfolding held
   has-held r =
       ap (λ (n : ℕ). has (take n (c .slots)) r) count-is ∙ ap (λ (l : List PayloadCache). has l r) whole ∙ has-append (take (c .next) (c .slots)) back r
@@ -342,7 +342,7 @@ follows c r g = go (has (contents c) r) refl
   where
     go : (b : Bool) → has (contents c) r ≡ b → Follows c r
     go true e =
-        let e′ : has (take (countIn c) (c .slots)) r ≡ true = has-held c g r ∙ e in
+        let e′ : has (take (ringCount c) (c .slots)) r ≡ true = has-held c g r ∙ e in
         record {
           answer = rw (le-ltb (c .size) 1 (g .some), le-ltb 64 (c .size) (g .most), e′, e) refl;
           list = rw (le-ltb (c .size) 1 (g .some), le-ltb 64 (c .size) (g .most), e′, e) refl;
@@ -350,7 +350,7 @@ follows c r g = go (has (contents c) r) refl
           good = rw (le-ltb (c .size) 1 (g .some), le-ltb 64 (c .size) (g .most), e′) g;
         }
     go false e =
-        let e′ : has (take (countIn c) (c .slots)) r ≡ false = has-held c g r ∙ e in
+        let e′ : has (take (ringCount c) (c .slots)) r ≡ false = has-held c g r ∙ e in
         record {
           answer = rw (le-ltb (c .size) 1 (g .some), le-ltb 64 (c .size) (g .most), e′, e) refl;
           list = rw (le-ltb (c .size) 1 (g .some), le-ltb 64 (c .size) (g .most), e′, e) (push-list c r g);

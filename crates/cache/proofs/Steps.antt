@@ -16,7 +16,7 @@ use Rattle.cache.specs.declared.ring.Cache.{Cache}
 use Rattle.cache.specs.declared.ring.CacheAnswer.the-variants.{New, Seen}
 use Rattle.cache.proofs.record.PayloadCache as R
 use Rattle.cache.proofs.ring.Cache as T
-use Rattle.cache.specs.Cache.{sameRecord, has, countIn, placeIn, pushedOf, refusedBy, addedOf}
+use Rattle.cache.specs.Cache.{sameRecord, has, ringCount, ringPlace, pushedOf, refusedBy, addedOf}
 
 -- ---- membership
 
@@ -83,15 +83,15 @@ pub added-large : (c : Cache) (r : PayloadCache) → 1 ≤ c .size → 64 < c .s
 unfolding addedOf
 added-large c r h k = rw (le-ltb (c .size) 1 h, lt-ltb 64 (c .size) k) refl
 
-pub added-seen : (c : Cache) (r : PayloadCache) → 1 ≤ c .size → c .size ≤ 64 → has (take (countIn c) (c .slots)) r ≡ true
+pub added-seen : (c : Cache) (r : PayloadCache) → 1 ≤ c .size → c .size ≤ 64 → has (take (ringCount c) (c .slots)) r ≡ true
     → record { answer = Seen; cache = c } ≡ addedOf c r
 unfolding addedOf
 added-seen c r h k e = rw (le-ltb (c .size) 1 h, le-ltb 64 (c .size) k, e) refl
 
 -- all are looked through, and none is r
-pub added-new : (c : Cache) (r : PayloadCache) → 1 ≤ c .size → c .size ≤ 64 → (n : ℕ) → n ≡ countIn c → (i : ℕ) → Looked (c .slots) r n i → n ≤ i
+pub added-new : (c : Cache) (r : PayloadCache) → 1 ≤ c .size → c .size ≤ 64 → (n : ℕ) → n ≡ ringCount c → (i : ℕ) → Looked (c .slots) r n i → n ≤ i
     → (m : ℕ) → m ≡ min (n + 1) (c .size)
-    → record { answer = New; cache = record { slots = set (c .slots) (placeIn c) r; size = c .size; len = m; next = (placeIn c + 1) % c .size } } ≡ addedOf c r
+    → record { answer = New; cache = record { slots = set (c .slots) (ringPlace c) r; size = c .size; len = m; next = (ringPlace c + 1) % c .size } } ≡ addedOf c r
 unfolding addedOf pushedOf
 added-new c r h k n e i g all m em = rw (em, e, le-ltb (c .size) 1 h, le-ltb 64 (c .size) k, none) refl
   where
@@ -100,5 +100,5 @@ added-new c r h k n e i g all m em = rw (em, e, le-ltb (c .size) 1 h, le-ltb 64 
         let w : i ≤ n = g .within in
         omega arith
 
-    none : has (take (countIn c) (c .slots)) r ≡ false
+    none : has (take (ringCount c) (c .slots)) r ≡ false
     none = ap (λ (j : ℕ). has (take j (c .slots)) r) (sym (there ∙ e)) ∙ g .none

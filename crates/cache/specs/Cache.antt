@@ -49,17 +49,17 @@ has (x ∷ xs) r = sameRecord x r || has xs r
 
 -- ---- a record as three words: type and uplink id, timestamp, relay id
 
-abbrev pub headOf : PayloadCache → ℕ
-headOf r = codeOf (r .«p_type») * 65536 + r .«uplink_id»
+abbrev pub headWord : PayloadCache → ℕ
+headWord r = codeOf (r .«p_type») * 65536 + r .«uplink_id»
 
 unfoldable pub packOf : PayloadCache → List ℕ
-packOf r = headOf r ∷ r .timestamp ∷ r .«relay_id» ∷ []
+packOf r = headWord r ∷ r .timestamp ∷ r .«relay_id» ∷ []
 
-abbrev pub kindOf : ℕ → PayloadType
-kindOf n = pick (eqb n 0) Uplink (pick (eqb n 1) Downlink (pick (eqb n 2) Event Command))
+abbrev pub typeByCode : ℕ → PayloadType
+typeByCode n = pick (eqb n 0) Uplink (pick (eqb n 1) Downlink (pick (eqb n 2) Event Command))
 
 unfoldable pub unpackOf : List ℕ → PayloadCache
-unpackOf w = rec (kindOf (getD w 0 0 / 65536 % 4)) (getD w 0 0 % 65536) (getD w 1 0) (getD w 2 0)
+unpackOf w = rec (typeByCode (getD w 0 0 / 65536 % 4)) (getD w 0 0 % 65536) (getD w 1 0) (getD w 2 0)
 
 -- ---- the last n records, oldest first
 
@@ -97,20 +97,20 @@ newOf n =
     (record { answer = Accepted; cache = emptyRing n }))
 
 -- how many records it holds, and the place of the next one
-abbrev pub countIn : Cache → ℕ
-countIn c = min (c .len) (c .size)
+abbrev pub ringCount : Cache → ℕ
+ringCount c = min (c .len) (c .size)
 
-abbrev pub placeIn : Cache → ℕ
-placeIn c = c .next % c .size
+abbrev pub ringPlace : Cache → ℕ
+ringPlace c = c .next % c .size
 
 -- r in the next place
 unfoldable pub pushedOf : Cache → PayloadCache → Cache
 pushedOf c r =
     record {
-      slots = set (c .slots) (placeIn c) r;
+      slots = set (c .slots) (ringPlace c) r;
       size = c .size;
-      len = min (countIn c + 1) (c .size);
-      next = (placeIn c + 1) % c .size;
+      len = min (ringCount c + 1) (c .size);
+      next = (ringPlace c + 1) % c .size;
     }
 
 -- 24 for a size of 0 or over 64, and the cache as it was
@@ -121,7 +121,7 @@ unfoldable pub addedOf : Cache → PayloadCache → Added
 addedOf c r =
     pick (ltb (c .size) 1) (refusedBy c)
     (pick (ltb cacheMost (c .size)) (refusedBy c)
-    (pick (has (take (countIn c) (c .slots)) r) (record { answer = Seen; cache = c })
+    (pick (has (take (ringCount c) (c .slots)) r) (record { answer = Seen; cache = c })
     (record { answer = New; cache = pushedOf c r })))
 
 -- the answers to records that are added one after the other
@@ -131,7 +131,7 @@ ringAnswers c (r ∷ rs) = addedOf c r .answer ∷ ringAnswers (addedOf c r .cac
 
 -- its records, oldest first
 unfoldable pub contents : Cache → List PayloadCache
-contents c = drop (placeIn c) (take (countIn c) (c .slots)) ++ take (placeIn c) (c .slots)
+contents c = drop (ringPlace c) (take (ringCount c) (c .slots)) ++ take (ringPlace c) (c .slots)
 
 -- ---- document 01's number, or the value, of each answer: yes is a new record
 

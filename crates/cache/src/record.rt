@@ -1,6 +1,6 @@
 // The record by which a packet is known again. The relay id is its four bytes as one number, so that all four are compared at once.
 ghost use mathlib.Core.Path.{_≡_};
-ghost use Rattle.cache.specs.Cache.{rec, recordOf, sameRecord, kindOf, packOf, unpackOf};
+ghost use Rattle.cache.specs.Cache.{rec, recordOf, sameRecord, typeByCode, packOf, unpackOf};
 use fields::PayloadType;
 use packets::MeshPacket;
 use packets::Payload;
@@ -36,8 +36,8 @@ fn stamped(p_type: PayloadType, timestamp: u32, relay_id: u32) -> PayloadCache
     }
 }
 
-fn kind_of(code: u32) -> PayloadType
-    ensures { λ r. ⌜ r ≡ kindOf code ⌝ }
+fn type_by_code(code: u32) -> PayloadType
+    ensures { λ r. ⌜ r ≡ typeByCode code ⌝ }
 {
     match code {
         0 => PayloadType::Uplink,
@@ -90,7 +90,7 @@ impl PayloadCache {
     pub fn unpack(w: [u32; 3]) -> PayloadCache
         ensures { λ r. ⌜ r ≡ unpackOf w ⌝ }
     {
-        let p_type = kind_of(w[0] / 65536 % 4);
+        let p_type = type_by_code(w[0] / 65536 % 4);
         PayloadCache {
             p_type,
             uplink_id: (w[0] % 65536) as u16,

@@ -9,12 +9,12 @@ use Rattle.base.specs.Pick.{pick}
 use Rattle.base.specs.Lists.{from, orElse, firstOf}
 use Rattle.base.proofs.Lists.{from-get, Passed, passed-more, passed-stop, passed-all}
 use Rattle.base.specs.Numbers.{itemLong, heartbeatLength, outside, itemMost, pathMost}
-use Rattle.wire.specs.Run.{runRefusal}
+use Rattle.wire.specs.Run.{runRefusal, runAt}
 use Rattle.wire.specs.declared.run.Run.{Run}
 use Rattle.fields.specs.Path.{badEntry}
 use Rattle.items.specs.Items.{badBeat}
 use Rattle.composed.specs.Composed.{Lists, paths, pathRun, isPath, itemCount, itemsIn, outsideOf, badPath, longOf, unevenOf, verdictOf, capped}
-use Rattle.composed.specs.Passes.{runAt, reachFor, faultOf, totalOf}
+use Rattle.composed.specs.Passes.{reachFor, faultOf, totalOf}
 use Rattle.composed.specs.declared.Composed.{Composed}
 use Rattle.composed.specs.declared.Total.the-variants.{Sum, Over}
 

@@ -21,7 +21,8 @@ use Rattle.composed.specs.declared.Composed.{Composed}
 use Rattle.composed.specs.declared.Total.{Total}
 use Rattle.composed.specs.declared.Total.the-variants.{Sum, Over}
 use Rattle.composed.proofs.Faults.{over-told, within-told}
-use Rattle.composed.proofs.Runs.{held-in, run-length, run-at, six-length, path-length, told-bad, told-some, told-good, told-six}
+use Rattle.fields.proofs.Laws.Path.{six-length}
+use Rattle.composed.proofs.Runs.{held-in, run-length, run-at, path-length, told-bad, told-some, told-good, told-six}
 
 -- ---- a path
 

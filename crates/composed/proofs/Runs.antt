@@ -7,18 +7,18 @@ use mathlib.Core.Path.{_≡_, refl, sym, ap, _∙_}
 use mathlib.Core.List.{List, [], _∷_}
 use lib.Dec.{ltb, eqb}
 use lib.IntN.{ℤ, pos, negsuc}
-use lib.ListN.{length, getD, take, drop, length-append, length-drop, List·getD-eq-default}
+use lib.ListN.{length, getD, take, drop, length-drop, List·getD-eq-default}
 use lib.Seq.{length-take-le}
 use borrow.Author.Tests.{ltb-false, eqb-true, eq-eqb, ne-eqb}
 use Rattle.base.specs.Pick.{pick}
 use Rattle.base.specs.Numbers.{heartbeatLength, rssiLarge, rssiSmall, snrSmall, snrLarge}
 use Rattle.base.specs.Lists.{from, joined}
-use Rattle.base.specs.Answers.{Frame, bytes, refused, checkedOf, bytesOr, frameNumber}
+use Rattle.base.specs.Answers.{Frame, bytes, refused, checkedOf, frameNumber}
 use Rattle.base.specs.declared.Checked.the-variants.{Accepted, Refused as No}
 use Rattle.base.proofs.Lists.{from-length, from-at, imap-length}
 use Rattle.wire.specs.Number.{beBytes}
 use Rattle.wire.specs.Part.{reachOf, reachNumber, partOf}
-use Rattle.wire.specs.Run.{runRefusal}
+use Rattle.wire.specs.Run.{runRefusal, runAt}
 use Rattle.wire.specs.declared.run.Run.{Run}
 use Rattle.wire.specs.declared.parts.Reach.the-variants.{Inside, Refused}
 use Rattle.fields.specs.Signal.{rssiByte, snrByte}
@@ -32,7 +32,8 @@ use Rattle.kept.specs.Kept.{headed, fixed, itemBytes}
 use Rattle.composed.specs.Composed.{Lists, lists, paths, pathCount, pathAt, pathRun, itemIn, isPath, valueOf, itemWire}
 use Rattle.composed.specs.declared.Composed.{Composed}
 use Rattle.items.specs.Items.{isBeat, badBeat}
-use Rattle.composed.specs.Passes.{runAt, heldOf, pairAt}
+use Rattle.composed.specs.Passes.{heldOf, pairAt}
+use Rattle.fields.proofs.Laws.Path.{joined-length}
 
 -- ---- at a place in the lists
 
@@ -125,22 +126,8 @@ module _ (l : Lists) (place n : ℕ) where
 
 -- ---- an entry's six bytes
 
-six-go : (b : List ℕ) (s r : SignalByte) → length b ≡ 4 → length (bytesOr 6 (afterRssi b [] s r)) ≡ 6
-six-go b (Byte x) (Byte y) h = length-append b (y ∷ x ∷ []) ∙ omega arith
-six-go b (NoByte x) (Byte y) h = refl
-six-go b s (NoByte y) h = refl
-
-pub six-length : (p : RelayPath) → length (sixOf p) ≡ 6
-unfolding sixOf pathWire beBytes
-six-length p = six-go (beBytes 4 (p .«relay_id»)) (snrByte (p .snr)) (rssiByte (p .rssi)) refl
-
-pub sixes-length : (ps : List RelayPath) → length (joined sixOf ps) ≡ 6 * length ps
-unfolding joined
-sixes-length [] = refl
-sixes-length (p ∷ ps) = let a = six-length p in let b = sixes-length ps in length-append (sixOf p) (joined sixOf ps) ∙ omega arith
-
 pub path-length : (l : Lists) (place n : ℕ) → length (joined sixOf (pathRun l place n)) ≡ 6 * heldOf (pathCount l) place n
-path-length l place n = sixes-length (pathRun l place n) ∙ ap (λ (k : ℕ). 6 * k) (run-length l place n)
+path-length l place n = let r = run-length l place n in joined-length (pathRun l place n) ∙ omega arith
 
 -- what an entry's answer says, and its bytes
 pub told-bad : (p : RelayPath) (w : PathBytes) → w ≡ pathBytes p → (n : ℕ) → w .answer ≡ No n → n ≡ badEntry p

@@ -1,5 +1,5 @@
 -- Items that a caller composes, in lent lists: the first refusal over all of them, pass by pass, and their bytes. Assumes nothing.
-use Prim.Native.Nat.{ℕ, min}
+use Prim.Native.Nat.{ℕ, _+_, min}
 use mathlib.Core.Bool.{Bool, false, not}
 use mathlib.Core.List.{List, []}
 use lib.Dec.{ltb, eqb}
@@ -7,11 +7,10 @@ use lib.IntN.{ℤ, pos}
 use lib.ListN.{length, getD}
 use Rattle.base.specs.Pick.{pick}
 use Rattle.base.specs.Lists.{from, imap, orElse, firstOf, joined}
-use Rattle.base.specs.Numbers.{itemLong, heartbeatLength, outside, itemMost, pathMost}
-use Rattle.base.specs.Answers.{Frame, bytes}
+use Rattle.base.specs.Numbers.{itemLong, heartbeatLength, outside, itemMost, pathMost, frameMost}
+use Rattle.base.specs.Answers.{Frame, bytes, unlessRefused}
 use Rattle.wire.specs.Part.{partOf}
-use Rattle.wire.specs.Run.{runRefusal}
-use Rattle.fields.specs.Meta.{unlessRefused}
+use Rattle.wire.specs.Run.{runAt, runRefusal}
 use Rattle.fields.specs.Path.{badEntry, sixOf}
 use Rattle.fields.specs.declared.path.RelayPath.{RelayPath}
 use Rattle.items.specs.Items.{isBeat, badBeat}
@@ -45,7 +44,7 @@ pathAt l i = record { «relay_id» = getD (l .ids) i 0; rssi = getD (l .rssis) i
 
 -- n entries from a place on, and none where they run outside
 unfoldable pub pathRun : Lists → ℕ → ℕ → List RelayPath
-pathRun l place n = pick (eqb (runRefusal (pathCount l) (record { start = place; len = n })) 0) (from n place (pathAt l)) []
+pathRun l place n = pick (eqb (runRefusal (pathCount l) (runAt place n)) 0) (from n place (pathAt l)) []
 
 -- ---- the items
 
@@ -71,7 +70,7 @@ isPath ev it = pick ev (not (eqb (it .kind) 0)) false
 -- ---- what is wrong with one item, in each pass: 45, the first bad path entry, 19, 20
 
 unfoldable pub outsideOf : Bool → Lists → Composed → ℕ
-outsideOf ev l it = runRefusal (pick (isPath ev it) (pathCount l) (length (l .src))) (record { start = it .place; len = it .len })
+outsideOf ev l it = runRefusal (pick (isPath ev it) (pathCount l) (length (l .src))) (runAt (it .place) (it .len))
 
 unfoldable pub badPath : Bool → Lists → Composed → ℕ
 badPath ev l it = pick (isPath ev it) (firstOf badEntry (pathRun l (it .place) (it .len))) 0
@@ -109,6 +108,6 @@ composedBytes ev l n = joined (itemWire ev l) (itemsIn l n)
 unfoldable pub composedWire : Bool → Lists → ℕ → Frame
 composedWire ev l n = unlessRefused (verdictOf ev l n) (bytes (composedBytes ev l n))
 
--- a length, and 8,193 for any that is larger
+-- a length, and for any that no frame has the first of these
 abbrev pub capped : ℕ → ℕ
-capped n = pick (ltb 8192 n) 8193 n
+capped n = pick (ltb frameMost n) (frameMost + 1) n

@@ -6,15 +6,11 @@ use mathlib.Core.List.{List, [], _∷_}
 use lib.Dec.{ltb, eqb}
 use lib.ListN.{length, getD}
 use Rattle.base.specs.Pick.{pick}
-use Rattle.wire.specs.Run.{runRefusal}
-use Rattle.wire.specs.declared.run.Run.{Run}
+use Rattle.wire.specs.Run.{runAt, runRefusal}
 use Rattle.composed.specs.Composed.{Lists, pathCount, outsideOf, badPath, longOf, unevenOf}
 use Rattle.composed.specs.declared.Composed.{Composed}
 use Rattle.composed.specs.declared.Total.{Total}
 use Rattle.composed.specs.declared.Total.the-variants.{Sum, Over}
-
-abbrev pub runAt : ℕ → ℕ → Run
-runAt place len = record { start = place; len = len }
 
 -- all of a run, or nothing where it lies outside a list of n
 unfoldable pub heldOf : ℕ → ℕ → ℕ → ℕ

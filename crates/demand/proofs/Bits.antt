@@ -21,7 +21,7 @@ use Rattle.packets.specs.declared.mesh.MeshPacket.{MeshPacket}
 use Rattle.packets.specs.declared.mesh.MeshRead.the-variants.{Mesh}
 use Rattle.trips.proofs.Again.{was-read}
 use Rattle.trips.proofs.Same.{kind-is}
-use Rattle.hops.specs.Hops.{counted}
+use Rattle.hops.specs.Hops.{carryingCount}
 use Rattle.demand.specs.Demand.{bitOf, mayDiffer, Edit}
 use Rattle.demand.proofs.Edited.{clearedOf, least-of, found, newBody, body-long, newMic, newFrame}
 
@@ -93,13 +93,13 @@ module _ (b : List ℕ) (least : 8 ≤ length b) (j i : ℕ) where
 
 -- ---- of the frame
 
-module _ (s : List ℕ) (p : MeshPacket) (small : Bytes s) (read : meshOf s ≡ Mesh p) (e : Edit) (v : ℕ) (byte : headerByte (counted p (e .count) .mhdr) ≡ Byte v) where
+module _ (s : List ℕ) (p : MeshPacket) (small : Bytes s) (read : meshOf s ≡ Mesh p) (e : Edit) (v : ℕ) (byte : headerByte (carryingCount p (e .count) .mhdr) ≡ Byte v) where
   abbrev x : ℕ
   x = getD s 0 0
 
   top-same : v / 8 ≡ x / 8
   top-same =
-      let a = accepted (counted p (e .count) .mhdr) v byte in
+      let a = accepted (carryingCount p (e .count) .mhdr) v byte in
       let b = accepted (p .mhdr) x (header-again x (small 0) (p .mhdr) (was-read s p read .header)) in
       let a1 : e .count ≤ 8 = a .most in
       let a2 : 224 + codeOf (p .mhdr .«payload_type») * 8 + (e .count - 1) ≡ v = a .is in

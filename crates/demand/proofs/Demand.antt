@@ -22,9 +22,9 @@ use Rattle.packets.specs.declared.mesh.MeshRead.the-variants.{Mesh, Refused}
 use Rattle.cache.specs.Cache.{recordOf}
 use Rattle.mic.specs.Mic.{setMic, validateMic}
 use Rattle.mic.specs.declared.Validated.the-variants.{Valid}
-use Rattle.hops.specs.Hops.{alone, counted, leaves}
+use Rattle.hops.specs.Hops.{alone, carryingCount, leaves}
 use Rattle.hops.proofs.Laws.{edit-unread, edit-uncounted}
-use Rattle.demand.specs.Demand.{bitOf, mayDiffer, Edit, edited, after, lastAccepted, afterOnly, openedUnder, bytesIn, itemsIn, decrypted, decoded}
+use Rattle.demand.specs.Demand.{bitOf, mayDiffer, Edit, edited, after, lastAccepted, afterOnly, openedUnder, bytesIn, piecesIn, decrypted, decoded}
 use Rattle.demand.proofs.Edited.{runIn, Lies, found, newFrame, newPacket, edit-gives, sign-gives, write-gives, read-gives, new-long, new-valid, new-run}
 use Rattle.demand.proofs.Bits.{same-bit}
 use Rattle.demand.proofs.Items as items
@@ -35,7 +35,7 @@ use Rattle.demand.proofs.Several.{from-one}
 -- the packet is signed, and written that is what the edit answers and leaves; the buffer then reads as that packet
 pub record Afresh (s : List ℕ) (p : MeshPacket) (e : Edit) : Type 0 where
   pub packet : MeshPacket
-  pub signed : setMic (aes (e .key)) (alone s) (counted p (e .count)) ≡ Mesh packet
+  pub signed : setMic (aes (e .key)) (alone s) (carryingCount p (e .count)) ≡ Mesh packet
   pub written : meshFrame (alone s) packet ≡ bytes (after s e)
   pub answer : edited s e ≡ bytes (after s e)
   pub read : meshOf (after s e) ≡ Mesh packet
@@ -64,7 +64,7 @@ module _ (s : List ℕ) (p : MeshPacket) (small : Bytes s) (read : meshOf s ≡ 
   abbrev v : ℕ
   v = 224 + codeOf (p .mhdr .«payload_type») * 8 + (e .count - 1)
 
-  byte : headerByte (counted p (e .count) .mhdr) ≡ Byte v
+  byte : headerByte (carryingCount p (e .count) .mhdr) ≡ Byte v
   unfolding headerByte
   byte = simp (le-ltb (e .count) 1 least, le-ltb 8 (e .count) most)
 
@@ -140,7 +140,7 @@ module _ (s : List ℕ) (p : MeshPacket) (small : Bytes s) (read : meshOf s ≡ 
       pub decoded-bytes : decoded bytesIn r (after s e) work ≡ decoded bytesIn p s work
       decoded-bytes = items.decoded-bytes s (after s e) (bodyIn s) same-length run p r same-payload lies work
 
-      pub decoded-items : decoded itemsIn r (after s e) work ≡ decoded itemsIn p s work
+      pub decoded-items : decoded piecesIn r (after s e) work ≡ decoded piecesIn p s work
       decoded-items = items.decoded-items s (after s e) (bodyIn s) same-length run p r same-payload lies work
 
       -- `decrypt`: the same, and the work buffer
@@ -154,7 +154,7 @@ module _ (s : List ℕ) (p : MeshPacket) (small : Bytes s) (read : meshOf s ≡ 
         pub decrypted-bytes : decrypted bytesIn key r (after s e) work ≡ decrypted bytesIn key p s work
         decrypted-bytes = items.decrypted-bytes s (after s e) (bodyIn s) same-length run p r same-payload lies key work
 
-        pub decrypted-items : decrypted itemsIn key r (after s e) work ≡ decrypted itemsIn key p s work
+        pub decrypted-items : decrypted piecesIn key r (after s e) work ≡ decrypted piecesIn key p s work
         decrypted-items = items.decrypted-items s (after s e) (bodyIn s) same-length run p r same-payload lies key work
 
 -- ---- f. Several edits leave what the last accepted one alone leaves, and nothing changes where none was accepted.

@@ -61,7 +61,7 @@ use Rattle.trips.proofs.Again.{was-read}
 use Rattle.trips.proofs.Same.{body-bytes, run-is, clearedBody}
 use Rattle.mic.specs.Mic.{micOf, carryingMic, setMic, comparedBy, validateMic}
 use Rattle.mic.specs.declared.Validated.the-variants.{Valid}
-use Rattle.hops.specs.Hops.{alone, counted, writtenOf, signedAnew, hopEdit}
+use Rattle.hops.specs.Hops.{alone, carryingCount, writtenOf, signedAnew, hopEdit}
 use Rattle.hops.proofs.Laws.{sealedWith, C, C-length, signed-is, set-is, edit-is}
 use Rattle.demand.specs.Demand.{Edit, edited}
 
@@ -232,7 +232,7 @@ module _ (s : List ℕ) (p : MeshPacket) (small : Bytes s) (read : meshOf s ≡ 
   pub body-long : length newBody ≡ length s - 5
   body-long = ap length (sym (C-is s p small read)) ∙ C-length s p small read
 
-  module _ (e : Edit) (v : ℕ) (byte : headerByte (counted p (e .count) .mhdr) ≡ Byte v) where
+  module _ (e : Edit) (v : ℕ) (byte : headerByte (carryingCount p (e .count) .mhdr) ≡ Byte v) where
     abbrev E : List ℕ → List ℕ
     E = aes (e .key)
 
@@ -244,22 +244,22 @@ module _ (s : List ℕ) (p : MeshPacket) (small : Bytes s) (read : meshOf s ≡ 
     newFrame = sealedWith E v newBody
 
     abbrev pub newPacket : MeshPacket
-    newPacket = carryingMic (counted p (e .count)) newMic
+    newPacket = carryingMic (carryingCount p (e .count)) newMic
 
     pub edit-gives : edited s e ≡ bytes newFrame
     edit-gives = edit-is s p small read v E (e .count) byte ∙ ap (λ (x : List ℕ). bytes (sealedWith E v x)) (C-is s p small read)
 
-    pub sign-gives : setMic E (alone s) (counted p (e .count)) ≡ Mesh newPacket
+    pub sign-gives : setMic E (alone s) (carryingCount p (e .count)) ≡ Mesh newPacket
     sign-gives =
-        set-is s p small read v (counted p (e .count) .mhdr) (p .«has_mic») (p .mic) byte E
-        ∙ ap (λ (x : List ℕ). Mesh (carryingMic (counted p (e .count)) (micOf E (v ∷ x)))) (C-is s p small read)
+        set-is s p small read v (carryingCount p (e .count) .mhdr) (p .«has_mic») (p .mic) byte E
+        ∙ ap (λ (x : List ℕ). Mesh (carryingMic (carryingCount p (e .count)) (micOf E (v ∷ x)))) (C-is s p small read)
 
     pub write-gives : meshFrame (alone s) newPacket ≡ bytes newFrame
     unfolding hopEdit
     write-gives = sym (ap (signedAnew E s (e .count)) read ∙ ap (writtenOf (alone s)) sign-gives) ∙ edit-gives
 
     message-bytes : Bytes (v ∷ newBody)
-    message-bytes = cons-lt v newBody (header-byte-lt (counted p (e .count) .mhdr) v byte) (cleared-bytes t (bodyIn s) (body-bytes s small))
+    message-bytes = cons-lt v newBody (header-byte-lt (carryingCount p (e .count) .mhdr) v byte) (cleared-bytes t (bodyIn s) (body-bytes s small))
 
     pub new-bytes : Bytes newFrame
     new-bytes = append-lt (v ∷ newBody) (beBytes 4 newMic) message-bytes (be-small 4 newMic)
@@ -270,7 +270,7 @@ module _ (s : List ℕ) (p : MeshPacket) (small : Bytes s) (read : meshOf s ≡ 
     pub read-gives : meshOf newFrame ≡ Mesh newPacket
     read-gives =
         let r = was-read s p read in
-        let h = counted p (e .count) .mhdr in
+        let h = carryingCount p (e .count) .mhdr in
         frame-read v newMic newBody fits (mic-lt (e .key) (e .block) (v ∷ newBody) message-bytes) h (header-back h v byte)
         ∙ ap (readAs h newMic) (payload-same (bodyIn s) (least-of (bodyIn s) (p .payload) found) t ∙ r .body)
 
@@ -299,7 +299,7 @@ module _ (s : List ℕ) (p : MeshPacket) (small : Bytes s) (read : meshOf s ≡ 
     unfolding validateMic
     new-valid =
         ap (comparedBy E newMic)
-        (signed-is newFrame newPacket new-bytes read-gives v (counted p (e .count) .mhdr) true newMic byte ∙ ap (λ (x : List ℕ). bytes (v ∷ x)) new-again)
+        (signed-is newFrame newPacket new-bytes read-gives v (carryingCount p (e .count) .mhdr) true newMic byte ∙ ap (λ (x : List ℕ). bytes (v ∷ x)) new-again)
         ∙ simp (eq-eqb newMic newMic refl)
 
     -- behind the relay id nothing is changed

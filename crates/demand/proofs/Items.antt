@@ -7,10 +7,9 @@ use lib.Dec.{ltb, eqb}
 use lib.ListN.{length}
 use Rattle.base.specs.Pick.{pick}
 use Rattle.base.specs.Numbers.{frameLong, outputShort, payloadMost}
-use Rattle.base.specs.Answers.{Frame, bytes, refused, outOf}
+use Rattle.base.specs.Answers.{Frame, bytes, refused, outOf, unlessRefused}
 use Rattle.wire.specs.Run.{runRefusal, runBytes}
 use Rattle.wire.specs.declared.run.Run.{Run}
-use Rattle.fields.specs.Meta.{unlessRefused}
 use Rattle.items.specs.Items.{pieces, openingOf, nothing}
 use Rattle.seal.specs.Stream.{sealedOf}
 use Rattle.bodies.specs.Body.{heldIn, payloadOf}
@@ -29,7 +28,7 @@ use Rattle.packets.specs.declared.mesh.Payload.{Payload}
 use Rattle.packets.specs.declared.mesh.MeshPacket.{MeshPacket}
 use Rattle.packets.specs.declared.mesh.MeshOpened.{MeshOpened}
 use Rattle.packets.specs.declared.mesh.MeshOpened.the-variants.{Opened as MeshNow, AlreadyOpen as MeshOpen, Refused as MeshNot}
-use Rattle.demand.specs.Demand.{openedUnder, bytesIn, isEvent, itemsIn, ofOpened, decrypted, decoded}
+use Rattle.demand.specs.Demand.{openedUnder, bytesIn, isEvent, piecesIn, ofOpened, decrypted, decoded}
 use Rattle.demand.proofs.Edited.{Placed, nowhere, there, runIn, Lies, uplink, downlink, event, command}
 
 -- the bytes of what an opening answers
@@ -129,7 +128,7 @@ under h q MeshOpen f k = refl
 under h q (MeshNot n) f k = refl
 
 -- the same bytes are the same items
-items-of : (y : MeshOpened) (f g k : List ℕ) → ofOpened bytesIn y g k ≡ ofOpened bytesIn y f k → ofOpened itemsIn y g k ≡ ofOpened itemsIn y f k
+items-of : (y : MeshOpened) (f g k : List ℕ) → ofOpened bytesIn y g k ≡ ofOpened bytesIn y f k → ofOpened piecesIn y g k ≡ ofOpened piecesIn y f k
 items-of (MeshNow x o) f g k h = ap (pieces (isEvent (x .payload)) 0) h
 items-of MeshOpen f g k h = refl
 items-of (MeshNot n) f g k h = refl
@@ -227,8 +226,8 @@ module _ (f g b : List ℕ) (long : length g ≡ length f) (same : runBytes g (r
       pub decoded-bytes : decoded bytesIn q g k ≡ decoded bytesIn p f k
       decoded-bytes = decode-with bytesIn (stand-by a found k)
 
-      pub decoded-items : decoded itemsIn q g k ≡ decoded itemsIn p f k
-      decoded-items = decode-with itemsIn (items-of y f g k (stand-by a found k))
+      pub decoded-items : decoded piecesIn q g k ≡ decoded piecesIn p f k
+      decoded-items = decode-with piecesIn (items-of y f g k (stand-by a found k))
 
     module _ (key k : List ℕ) where
       abbrev z : MeshOpened
@@ -243,5 +242,5 @@ module _ (f g b : List ℕ) (long : length g ≡ length f) (same : runBytes g (r
       pub decrypted-bytes : decrypted bytesIn key q g k ≡ decrypted bytesIn key p f k
       decrypted-bytes = decrypt-with bytesIn (clear-by key a found k m)
 
-      pub decrypted-items : decrypted itemsIn key q g k ≡ decrypted itemsIn key p f k
-      decrypted-items = decrypt-with itemsIn (items-of z f g m (clear-by key a found k m))
+      pub decrypted-items : decrypted piecesIn key q g k ≡ decrypted piecesIn key p f k
+      decrypted-items = decrypt-with piecesIn (items-of z f g m (clear-by key a found k m))

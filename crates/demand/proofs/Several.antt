@@ -14,7 +14,7 @@ use Rattle.packets.specs.Read.{meshOf}
 use Rattle.packets.specs.declared.mesh.MeshPacket.{MeshPacket}
 use Rattle.packets.specs.declared.mesh.MeshRead.{MeshRead}
 use Rattle.packets.specs.declared.mesh.MeshRead.the-variants.{Mesh, Refused}
-use Rattle.hops.specs.Hops.{counted, leaves}
+use Rattle.hops.specs.Hops.{carryingCount, leaves}
 use Rattle.hops.proofs.Laws.{sealedWith, edit-is, edit-unread, edit-uncounted}
 use Rattle.demand.specs.Demand.{Edit, edited, after, accepts, lastAccepted, afterOnly}
 use Rattle.demand.proofs.Edited.{newFrame, newPacket, edit-gives, new-bytes, read-gives, new-again}
@@ -22,7 +22,7 @@ use Rattle.demand.proofs.Edited.{newFrame, newPacket, edit-gives, new-b
 module _ (s : List ℕ) (small : Bytes s) where
   -- an edit answers the same, whatever edit came before it
   module _ (d e : Edit) where
-    second : (p : MeshPacket) (x : meshOf s ≡ Mesh p) (v : ℕ) (y : headerByte (counted p (d .count) .mhdr) ≡ Byte v) (b : HeaderByte) → headerByte (counted p (e .count) .mhdr) ≡ b
+    second : (p : MeshPacket) (x : meshOf s ≡ Mesh p) (v : ℕ) (y : headerByte (carryingCount p (d .count) .mhdr) ≡ Byte v) (b : HeaderByte) → headerByte (carryingCount p (e .count) .mhdr) ≡ b
         → edited (newFrame s p small x d v y) e ≡ edited s e
     second p x v y (NoByte k) z =
         let w = newFrame s p small x d v y in
@@ -35,14 +35,14 @@ module _ (s : List ℕ) (small : Bytes s) where
         ∙ ap (λ (l : List ℕ). bytes (sealedWith (aes (e .key)) u l)) (new-again s p small x d v y)
         ∙ sym (edit-gives s p small x e u z)
 
-    first : (p : MeshPacket) → meshOf s ≡ Mesh p → (b : HeaderByte) → headerByte (counted p (d .count) .mhdr) ≡ b → edited (after s d) e ≡ edited s e
+    first : (p : MeshPacket) → meshOf s ≡ Mesh p → (b : HeaderByte) → headerByte (carryingCount p (d .count) .mhdr) ≡ b → edited (after s d) e ≡ edited s e
     first p x (NoByte k) y = ap (λ (f : Frame). edited (leaves f s) e) (edit-uncounted (aes (d .key)) s p k (d .count) x y)
     first p x (Byte v) y =
-        ap (λ (f : Frame). edited (leaves f s) e) (edit-gives s p small x d v y) ∙ second p x v y (headerByte (counted p (e .count) .mhdr)) refl
+        ap (λ (f : Frame). edited (leaves f s) e) (edit-gives s p small x d v y) ∙ second p x v y (headerByte (carryingCount p (e .count) .mhdr)) refl
 
     by-read : (r : MeshRead) → meshOf s ≡ r → edited (after s d) e ≡ edited s e
     by-read (Refused k) x = ap (λ (f : Frame). edited (leaves f s) e) (edit-unread (aes (d .key)) s k (d .count) x)
-    by-read (Mesh p) x = first p x (headerByte (counted p (d .count) .mhdr)) refl
+    by-read (Mesh p) x = first p x (headerByte (carryingCount p (d .count) .mhdr)) refl
 
     pub same-answer : edited (after s d) e ≡ edited s e
     same-answer = by-read (meshOf s) refl

@@ -81,8 +81,8 @@ isEvent (Event u) = true
 isEvent (Command u) = false
 
 -- the items that are read from them: kept, skipped and cut
-abbrev pub itemsIn : Payload → List ℕ → List ℕ → List Piece
-itemsIn q f w = pieces (isEvent q) 0 (bytesIn q f w)
+abbrev pub piecesIn : Payload → List ℕ → List ℕ → List Piece
+piecesIn q f w = pieces (isEvent q) 0 (bytesIn q f w)
 
 -- either of these, of what an opening answers
 abbrev pub ofOpened : {A : Type 0} → (Payload → List ℕ → List ℕ → List A) → MeshOpened → List ℕ → List ℕ → List A

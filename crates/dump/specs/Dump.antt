@@ -1,5 +1,5 @@
 -- The text of a frame, and of a line of hex over it. No newline is in either. Assumes nothing.
-use Prim.Native.Nat.{ℕ, zero, suc, _+_, _-_, _/_, _%_}
+use Prim.Native.Nat.{ℕ, zero, suc, _+_, _-_, _*_, _/_, _%_}
 use mathlib.Core.Bool.{Bool, true, not}
 use mathlib.Core.List.{List, [], _∷_, _++_}
 use lib.Dec.{ltb, eqb}
@@ -32,7 +32,12 @@ lastDigits (suc k) n = pick (ltb n 10) ((48 + n) ∷ []) (lastDigits k (n / 10) 
 unfoldable pub decimal : ℕ → List ℕ
 decimal n = lastDigits 10 n
 
--- the same at the end of ten bytes
+-- the number that digits are read as, behind v
+unfoldable pub fromDigits : ℕ → List ℕ → ℕ
+fromDigits v [] = v
+fromDigits v (d ∷ s) = fromDigits (v * 10 + (d - 48)) s
+
+-- the digits of n at the end of ten bytes
 abbrev pub digitsOf : ℕ → Digits
 digitsOf n = record { bytes = replicate (10 - length (decimal n)) 0 ++ decimal n; start = 10 - length (decimal n) }
 
@@ -74,16 +79,16 @@ payloadText t hops mic (ACommand p) = stampedText t hops (p .timestamp) (p .«re
 unfoldable pub meshText : MeshPacket → List ℕ
 meshText p = payloadText (p .mhdr .«payload_type») (p .mhdr .«hop_count») (p .mic) (p .payload)
 
-abbrev pub counted : List ℕ → ℕ → List ℕ
-counted word n = word ++ decimal n
+abbrev pub withNumber : List ℕ → ℕ → List ℕ
+withNumber word n = word ++ decimal n
 
 abbrev pub refusedText : ℕ → List ℕ
-refusedText n = counted (ascii "refused ") n
+refusedText n = withNumber (ascii "refused ") n
 
 -- of a LoRa frame its length
 abbrev pub packetText : Packet → List ℕ
 packetText (Mesh p) = meshText p
-packetText (Lora r) = counted (ascii "lora ") (r .len)
+packetText (Lora r) = withNumber (ascii "lora ") (r .len)
 
 abbrev pub readText : PacketRead → List ℕ
 readText (PacketIs p) = packetText p

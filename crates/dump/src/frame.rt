@@ -5,7 +5,7 @@ ghost use lib.ListN.{length};
 ghost use Prim.Native.Nat.{_+_, _≤_};
 ghost use Rattle.base.specs.Answers.{bytes, answerOf, outOf};
 ghost use Rattle.wire.specs.Lay.{put};
-ghost use Rattle.dump.specs.Dump.{labelOf, fourText, counted, refusedText, lineOf, linkText, stampedText, meshText, frameText};
+ghost use Rattle.dump.specs.Dump.{labelOf, fourText, withNumber, refusedText, lineOf, linkText, stampedText, meshText, frameText};
 use crate::digits::put_decimal;
 use crate::digits::width;
 use base::Refusal;
@@ -22,8 +22,8 @@ use wire::write_hex;
 // A word and a number, or 21.
 fn write_counted(word: &[u8], n: u32, out: &mut [u8]) -> Written
     requires { ⌜ length (now word) ≤ 8 ⌝ }
-    ensures answer { λ r. ⌜ r ≡ answerOf (bytes (counted (now (word .entry)) n)) (now (out .entry)) ⌝ }
-    ensures bytes { λ _. ⌜ now (out .exit) ≡ outOf (bytes (counted (now (word .entry)) n)) (now (out .entry)) ⌝ }
+    ensures answer { λ r. ⌜ r ≡ answerOf (bytes (withNumber (now (word .entry)) n)) (now (out .entry)) ⌝ }
+    ensures bytes { λ _. ⌜ now (out .exit) ≡ outOf (bytes (withNumber (now (word .entry)) n)) (now (out .entry)) ⌝ }
 {
     let a = word.len();
     let b = a + width(n);

@@ -8,7 +8,7 @@ use mathlib.Core.List.{List, [], _∷_, _++_}
 use lib.Dec.{ltb}
 use lib.ListN.{length, getD}
 use borrow.Author.Tests.{le-ltb, ltb-false}
-use Rattle.fields.proofs.Laws.Meta.{unless-bytes}
+use Rattle.base.proofs.Answers.{unless-bytes}
 use Rattle.base.specs.Lists.{Bytes, from}
 use Rattle.base.specs.Answers.{Frame, bytes, refused}
 use Rattle.wire.specs.Number.{beBytes}
@@ -18,7 +18,8 @@ use Rattle.payloads.specs.Read.{fourAt}
 use Rattle.payloads.proofs.Laws.{with-four, four-is, spelt, third}
 use Rattle.bodies.specs.Body.{Lent, bodyOf, bodyRefusal, bodyBytes, bodyWire}
 use Rattle.events.specs.Read.{stampedAt, asEvent, eventAt, asCommand, commandAt}
-use Rattle.events.specs.Write.{stamp, headedBy, stampedWire}
+use Rattle.payloads.specs.Write.{headedBy}
+use Rattle.events.specs.Write.{stamp, stampedWire}
 use Rattle.bodies.specs.declared.body.Body.{Body}
 use Rattle.events.specs.declared.stamped.EventPayload.{EventPayload}
 use Rattle.events.specs.declared.stamped.EventRead.the-variants.{Payload as AnEvent}

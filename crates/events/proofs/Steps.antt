@@ -11,21 +11,20 @@ use Rattle.base.specs.Blocks.{Block}
 use Rattle.base.specs.Answers.{Frame, bytes, refused, answerOf, outOf}
 use Rattle.base.specs.declared.Written.{Written}
 use Rattle.base.specs.declared.Written.the-variants.{Bytes, Refused}
-use Rattle.base.proofs.Answers.{room, no-room}
+use Rattle.base.proofs.Answers.{room, no-room, is-refused, not-refused}
 use Rattle.wire.specs.Lay.{put}
 use Rattle.wire.specs.Number.{beBytes}
 use Rattle.wire.proofs.Laws.Lay.{put-front, two-puts}
 use Rattle.wire.proofs.Laws.Number.{be-length}
-use Rattle.fields.proofs.Laws.Meta.{is-refused, not-refused}
 use Rattle.cipher.specs.Words.{prepared, enciphered}
 use Rattle.seal.specs.Stream.{numbered, streamed, sealedOf}
 use Rattle.seal.proofs.Turns.{too-long, too-short, sealed-in}
 use Rattle.composed.specs.Composed.{capped}
 use Rattle.composed.proofs.Laws.{capped-is, capped-over}
-use Rattle.payloads.specs.Write.{prefixed, limited, limitedOf, withMic}
+use Rattle.payloads.specs.Write.{prefixed, limited, limitedOf, withMic, headedBy}
 use Rattle.payloads.proofs.Steps.{Outcome, refuses, same-frame, body-refused, frame-refused, no-mic, frame-long, frame-whole, four-length, four-puts}
 use Rattle.bodies.specs.Body.{Lent, bodyOf, bodyRefusal, bodyBytes, bodyWire}
-use Rattle.events.specs.Write.{stamp, headedBy, stampedWire}
+use Rattle.events.specs.Write.{stamp, stampedWire}
 use Rattle.events.specs.Seal.{stampedSeal, sealedAs}
 use Rattle.events.specs.declared.stamped.Stamped.{Stamped}
 use Rattle.events.specs.declared.stamped.StampedRead.{StampedRead}

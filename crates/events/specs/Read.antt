@@ -4,7 +4,7 @@ use mathlib.Core.List.{List}
 use lib.Dec.{ltb}
 use lib.ListN.{length}
 use Rattle.base.specs.Pick.{pick}
-use Rattle.base.specs.Numbers.{frameLong, bodyShort}
+use Rattle.base.specs.Numbers.{frameLong, bodyShort, bodyMost}
 use Rattle.base.specs.Answers.{Answer, value, number}
 use Rattle.payloads.specs.Read.{fourAt}
 use Rattle.bodies.specs.Body.{bodyOf}
@@ -19,7 +19,7 @@ use Rattle.events.specs.declared.stamped.StampedRead.the-variants.{Stamp
 
 unfoldable pub stampedAt : ℕ → List ℕ → StampedRead
 stampedAt at b =
-    pick (ltb 8187 (length b)) (NoStamped frameLong)
+    pick (ltb bodyMost (length b)) (NoStamped frameLong)
     (pick (ltb (length b) 8) (NoStamped bodyShort)
     (AStamped (record { timestamp = fourAt b 0; «relay_id» = fourAt b 4; body = bodyOf (8 + at) (length b - 8) })))
 

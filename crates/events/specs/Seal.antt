@@ -2,10 +2,9 @@
 use Prim.Native.Nat.{ℕ}
 use mathlib.Core.Bool.{Bool, true, false, not}
 use mathlib.Core.List.{List}
-use Rattle.base.specs.Answers.{Frame, Answer, value, number}
+use Rattle.base.specs.Answers.{Frame, Answer, value, number, unlessRefused}
 use Rattle.base.specs.declared.Written.{Written}
 use Rattle.base.specs.declared.Written.the-variants.{Bytes, Refused}
-use Rattle.fields.specs.Meta.{unlessRefused}
 use Rattle.seal.specs.Stream.{sealedOf}
 use Rattle.bodies.specs.Body.{Lent, bodyOf, bodyRefusal, bodyBytes}
 use Rattle.bodies.specs.Open.{Told, told, wasOpen}

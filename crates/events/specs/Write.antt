@@ -3,21 +3,17 @@
 use Prim.Native.Nat.{ℕ}
 use mathlib.Core.Bool.{Bool, true, false}
 use mathlib.Core.List.{List, _++_}
-use Rattle.base.specs.Answers.{Frame, bytes, refused}
+use Rattle.base.specs.Answers.{Frame}
 use Rattle.wire.specs.Number.{beBytes}
 use Rattle.bodies.specs.Body.{Lent, bodyWire}
 use Rattle.events.specs.declared.stamped.EventPayload.{EventPayload}
 use Rattle.events.specs.declared.stamped.CommandPayload.{CommandPayload}
 use Rattle.events.specs.declared.stamped.Stamped.{Stamped}
+use Rattle.payloads.specs.Write.{headedBy}
 
 -- timestamp and relay id
 unfoldable pub stamp : ℕ → ℕ → List ℕ
 stamp time relay = beBytes 4 time ++ beBytes 4 relay
-
--- what is written, with a head before it
-abbrev pub headedBy : List ℕ → Frame → Frame
-headedBy h (refused n) = refused n
-headedBy h (bytes v) = bytes (h ++ v)
 
 unfoldable pub stampedWire : Bool → Lent → Stamped → Frame
 stampedWire ev l p = headedBy (stamp (p .timestamp) (p .«relay_id»)) (bodyWire ev l (p .body))

@@ -78,7 +78,7 @@ impl Stamped {
     fn read_at(b: &[u8], at: u8) -> StampedRead
         ensures { λ r. ⌜ r ≡ stampedAt at (now (b .entry)) ⌝ }
     {
-        if Limit::FRAME - 5 < b.len() {
+        if Limit::BODY < b.len() {
             return StampedRead::Refused(Refusal::FRAME_LONG);
         }
         if b.len() < Body::LEAST {

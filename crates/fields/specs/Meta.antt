@@ -5,7 +5,7 @@ use lib.Dec.{ltb, eqb}
 use lib.ListN.{getD}
 use Rattle.base.specs.Pick.{pick}
 use Rattle.base.specs.Numbers.{uplinkIdLarge, drLarge, delayNone, txPowerLarge, delayLarge}
-use Rattle.base.specs.Answers.{Frame, bytes, refused, checkedOf, bytesOr}
+use Rattle.base.specs.Answers.{Frame, bytes, refused, unlessRefused, checkedOf, bytesOr}
 use Rattle.fields.specs.Freq.{hertzOf, freqWire}
 use Rattle.fields.specs.Signal.{rssiOf, snrOf, rssiByte, snrByte}
 use Rattle.fields.specs.declared.signal.SignalByte.{SignalByte}
@@ -25,10 +25,6 @@ idBytes id dr = (id / 16 % 256) ∷ (id % 16 * 16 + dr) ∷ []
 -- the first refusal, or 0
 unfoldable pub idRefusal : ℕ → ℕ → ℕ
 idRefusal id dr = pick (ltb 4095 id) uplinkIdLarge (pick (ltb 15 dr) drLarge 0)
-
--- what follows a chain of tests that ends in a number, where that is 0
-abbrev pub unlessRefused : ℕ → Frame → Frame
-unlessRefused n f = pick (eqb n 0) f (refused n)
 
 -- ---- uplinks: id and dr, rssi, snr, channel
 

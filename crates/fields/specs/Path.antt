@@ -1,7 +1,9 @@
 -- An entry of a heartbeat's path in six bytes: relay id, rssi, snr. Assumes nothing.
-use Prim.Native.Nat.{ℕ}
+use Prim.Native.Nat.{ℕ, _%_}
 use mathlib.Core.List.{List, [], _∷_}
+use lib.Dec.{eqb}
 use lib.ListN.{getD}
+use Rattle.base.specs.Pick.{pick}
 use Rattle.base.specs.Answers.{Frame, frameNumber, checkedOf, bytesOr}
 use Rattle.wire.specs.Number.{beOf, beBytes}
 use Rattle.fields.specs.Signal.{rssiOf, snrOf, rssiByte, snrByte}
@@ -26,6 +28,10 @@ pathAnswer f = record { answer = checkedOf f; bytes = bytesOr 6 f }
 
 unfoldable pub pathBytes : RelayPath → PathBytes
 pathBytes p = pathAnswer (pathWire p)
+
+-- byte i of entries one behind the other, as it is written: the top two bits of each sixth byte, which hold no snr, are 0
+abbrev pub entryByte : ℕ → ℕ → ℕ
+entryByte i b = pick (eqb (i % 6) 5) (b % 64) b
 
 -- document 01's number of the refusal, 0 for none; and the six bytes
 unfoldable pub badEntry : RelayPath → ℕ

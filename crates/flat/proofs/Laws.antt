@@ -21,7 +21,7 @@ use Rattle.packets.specs.declared.mesh.MeshRead.the-variants.{Mesh}
 use Rattle.packets.specs.declared.any.Packet.{Packet}
 use Rattle.packets.specs.declared.any.Packet.the-variants.{Mesh as AMesh, Lora}
 use Rattle.packets.specs.declared.any.PacketRead.the-variants.{Packet as PacketIs}
-use Rattle.flat.specs.Flat.{placeOf, headOf, ofUplink, ofDownlink, ofStamped, ofPayload, flatOfMesh, flatOf, bodyFrom, typedBy, kindBy, meshFrom, packetFrom}
+use Rattle.flat.specs.Flat.{placeOf, headOf, flatOfUplink, flatOfDownlink, flatOfStamped, flatOfPayload, flatOfMesh, flatOf, bodyFrom, typedBy, kindBy, meshFrom, packetFrom}
 use Rattle.flat.specs.declared.Flat.{Flat}
 use Rattle.flat.specs.declared.Head.{Head}
 
@@ -42,23 +42,23 @@ module _ (h : MHDR) (has : Bool) (mic : ℕ) where
   abbrev whole : Payload → MeshRead
   whole q = Mesh (record { mhdr = h; payload = q; «has_mic» = has; mic = mic })
 
-  payload-back : (q : Payload) → meshFrom (ofPayload (headOf h has mic) q) ≡ whole q
-  unfolding ofPayload
-  payload-back (AnUplink u) = reads (ofUplink (headOf h has mic) u) Uplink (h .«payload_type») refl refl
-  payload-back (ADownlink u) = reads (ofDownlink (headOf h has mic) u) Downlink (h .«payload_type») refl refl
+  payload-back : (q : Payload) → meshFrom (flatOfPayload (headOf h has mic) q) ≡ whole q
+  unfolding flatOfPayload
+  payload-back (AnUplink u) = reads (flatOfUplink (headOf h has mic) u) Uplink (h .«payload_type») refl refl
+  payload-back (ADownlink u) = reads (flatOfDownlink (headOf h has mic) u) Downlink (h .«payload_type») refl refl
   payload-back (AnEvent u) =
-      reads (ofStamped 2 (headOf h has mic) (u .timestamp) (u .«relay_id») (u .events)) Event (h .«payload_type») refl refl
+      reads (flatOfStamped 2 (headOf h has mic) (u .timestamp) (u .«relay_id») (u .events)) Event (h .«payload_type») refl refl
       ∙ ap (λ (b : Body). whole (AnEvent (record { timestamp = u .timestamp; «relay_id» = u .«relay_id»; events = b }))) (body-back (u .events))
   payload-back (ACommand u) =
-      reads (ofStamped 3 (headOf h has mic) (u .timestamp) (u .«relay_id») (u .commands)) Command (h .«payload_type») refl refl
+      reads (flatOfStamped 3 (headOf h has mic) (u .timestamp) (u .«relay_id») (u .commands)) Command (h .«payload_type») refl refl
       ∙ ap (λ (b : Body). whole (ACommand (record { timestamp = u .timestamp; «relay_id» = u .«relay_id»; commands = b }))) (body-back (u .commands))
 
 pub mesh-back : (p : MeshPacket) → meshFrom (flatOfMesh p) ≡ Mesh p
 mesh-back p = payload-back (p .mhdr) (p .«has_mic») (p .mic) (p .payload)
 
 -- no mesh packet's kind is that of a LoRa frame
-no-lora : (h : Head) (q : Payload) → eqb (ofPayload h q .kind) 4 ≡ false
-unfolding ofPayload
+no-lora : (h : Head) (q : Payload) → eqb (flatOfPayload h q .kind) 4 ≡ false
+unfolding flatOfPayload
 no-lora h (AnUplink u) = refl
 no-lora h (ADownlink u) = refl
 no-lora h (AnEvent u) = refl

@@ -46,8 +46,8 @@ placeOf (Items n) = record { body = 4; start = 0; len = n }
 abbrev pub headOf : MHDR → Bool → ℕ → Head
 headOf h has mic = record { «payload_type» = codeOf (h .«payload_type»); «hop_count» = h .«hop_count»; «has_mic» = has; mic = mic }
 
-abbrev pub ofUplink : Head → UplinkPayload → Flat
-ofUplink h u = record {
+abbrev pub flatOfUplink : Head → UplinkPayload → Flat
+flatOfUplink h u = record {
   kind = 0;
   «payload_type» = h .«payload_type»;
   «hop_count» = h .«hop_count»;
@@ -68,8 +68,8 @@ ofUplink h u = record {
   len = u .«phy_payload» .len;
 }
 
-abbrev pub ofDownlink : Head → DownlinkPayload → Flat
-ofDownlink h u = record {
+abbrev pub flatOfDownlink : Head → DownlinkPayload → Flat
+flatOfDownlink h u = record {
   kind = 1;
   «payload_type» = h .«payload_type»;
   «hop_count» = h .«hop_count»;
@@ -90,8 +90,8 @@ ofDownlink h u = record {
   len = u .«phy_payload» .len;
 }
 
-abbrev pub ofStamped : ℕ → Head → ℕ → ℕ → Body → Flat
-ofStamped kind h time relay b = record {
+abbrev pub flatOfStamped : ℕ → Head → ℕ → ℕ → Body → Flat
+flatOfStamped kind h time relay b = record {
   kind = kind;
   «payload_type» = h .«payload_type»;
   «hop_count» = h .«hop_count»;
@@ -112,8 +112,8 @@ ofStamped kind h time relay b = record {
   len = placeOf b .len;
 }
 
-abbrev pub ofLora : Run → Flat
-ofLora r = record {
+abbrev pub flatOfLora : Run → Flat
+flatOfLora r = record {
   kind = 4;
   «payload_type» = 0;
   «hop_count» = 0;
@@ -135,18 +135,18 @@ ofLora r = record {
 }
 
 -- the payload says the kind, the header the type
-unfoldable pub ofPayload : Head → Payload → Flat
-ofPayload h (AnUplink u) = ofUplink h u
-ofPayload h (ADownlink u) = ofDownlink h u
-ofPayload h (AnEvent u) = ofStamped 2 h (u .timestamp) (u .«relay_id») (u .events)
-ofPayload h (ACommand u) = ofStamped 3 h (u .timestamp) (u .«relay_id») (u .commands)
+unfoldable pub flatOfPayload : Head → Payload → Flat
+flatOfPayload h (AnUplink u) = flatOfUplink h u
+flatOfPayload h (ADownlink u) = flatOfDownlink h u
+flatOfPayload h (AnEvent u) = flatOfStamped 2 h (u .timestamp) (u .«relay_id») (u .events)
+flatOfPayload h (ACommand u) = flatOfStamped 3 h (u .timestamp) (u .«relay_id») (u .commands)
 
 abbrev pub flatOfMesh : MeshPacket → Flat
-flatOfMesh p = ofPayload (headOf (p .mhdr) (p .«has_mic») (p .mic)) (p .payload)
+flatOfMesh p = flatOfPayload (headOf (p .mhdr) (p .«has_mic») (p .mic)) (p .payload)
 
 unfoldable pub flatOf : Packet → Flat
 flatOf (AMesh p) = flatOfMesh p
-flatOf (Lora r) = ofLora r
+flatOf (Lora r) = flatOfLora r
 
 -- ---- and back
 

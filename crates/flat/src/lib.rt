@@ -1,6 +1,6 @@
 // A packet as one plain struct of numbers, for callers from C, where no enum can stand: which fields count goes by `kind` and `body`.
 ghost use mathlib.Core.Path.{_≡_};
-ghost use Rattle.flat.specs.Flat.{placeOf, bodyFrom, headOf, ofUplink, ofDownlink, ofStamped, ofLora, flatOfMesh, flatOf, uplinkFrom, downlinkFrom, eventFrom, commandFrom, payloadFrom, meshFrom, packetFrom, bit, numbersOf, placed};
+ghost use Rattle.flat.specs.Flat.{placeOf, bodyFrom, headOf, flatOfUplink, flatOfDownlink, flatOfStamped, flatOfLora, flatOfMesh, flatOf, uplinkFrom, downlinkFrom, eventFrom, commandFrom, payloadFrom, meshFrom, packetFrom, bit, numbersOf, placed};
 use bodies::Body;
 use bodies::Held;
 use events::CommandPayload;
@@ -139,7 +139,7 @@ fn head_of(mhdr: MHDR, has_mic: bool, mic: u32) -> Head
 }
 
 fn of_uplink(h: Head, u: UplinkPayload) -> Flat
-    ensures { λ r. ⌜ r ≡ ofUplink h u ⌝ }
+    ensures { λ r. ⌜ r ≡ flatOfUplink h u ⌝ }
 {
     let m = u.metadata;
     let run = u.phy_payload;
@@ -166,7 +166,7 @@ fn of_uplink(h: Head, u: UplinkPayload) -> Flat
 }
 
 fn of_downlink(h: Head, u: DownlinkPayload) -> Flat
-    ensures { λ r. ⌜ r ≡ ofDownlink h u ⌝ }
+    ensures { λ r. ⌜ r ≡ flatOfDownlink h u ⌝ }
 {
     let m = u.metadata;
     let run = u.phy_payload;
@@ -194,7 +194,7 @@ fn of_downlink(h: Head, u: DownlinkPayload) -> Flat
 
 // An event or a command.
 fn of_stamped(kind: u8, h: Head, timestamp: u32, relay_id: u32, b: Body) -> Flat
-    ensures { λ r. ⌜ r ≡ ofStamped kind h timestamp «relay_id» b ⌝ }
+    ensures { λ r. ⌜ r ≡ flatOfStamped kind h timestamp «relay_id» b ⌝ }
 {
     let p = place_of(b);
     Flat {
@@ -220,7 +220,7 @@ fn of_stamped(kind: u8, h: Head, timestamp: u32, relay_id: u32, b: Body) -> Flat
 }
 
 fn of_lora(run: Run) -> Flat
-    ensures { λ r. ⌜ r ≡ ofLora run ⌝ }
+    ensures { λ r. ⌜ r ≡ flatOfLora run ⌝ }
 {
     Flat {
         kind: Flat::LORA,

@@ -20,17 +20,17 @@ use Rattle.base.proofs.Lists.{_◂_, imap-length, imap-at, or-zero, listed}
 use Rattle.wire.specs.Number.{beBytes}
 use Rattle.fields.specs.Signal.{rssiByte, snrByte}
 use Rattle.fields.specs.Meta.{afterRssi}
-use Rattle.fields.specs.Path.{pathOf, pathWire}
+use Rattle.fields.specs.Path.{pathOf, pathWire, entryByte}
 use Rattle.fields.specs.declared.signal.SignalByte.{SignalByte}
 use Rattle.fields.specs.declared.signal.SignalByte.the-variants.{Byte, Refused as NoByte}
 use Rattle.fields.specs.declared.path.RelayPath.{RelayPath}
 use Rattle.fields.proofs.Laws.Bytes.{none, _▸_, small}
-use Rattle.fields.proofs.Laws.Path.{path-back, path-again}
-use Rattle.heartbeats.specs.Heartbeat.{sixAt, entryAt, entries, pathsOf, beatRefusal, beatOf, beatWire}
+use Rattle.fields.proofs.Laws.Path.{path-back, path-again, six-length, joined-length}
+use Rattle.heartbeats.specs.Heartbeat.{sixAt, entryAt, entries, pathsOf, beatRefusal, beatOf, beatWire, noPath, FourByteIds}
 use Rattle.fields.specs.Path.{badEntry, sixOf}
 use Rattle.base.specs.Answers.{frameNumber}
 use Rattle.heartbeats.specs.declared.heartbeat.HeartbeatRead.the-variants.{Heartbeat}
-use Rattle.heartbeats.proofs.Steps.{noPath, entries-length, six-length, first-snoc, joined-length, joined-snoc}
+use Rattle.heartbeats.proofs.Steps.{entries-length, first-snoc, joined-snoc}
 
 -- ---- the entries by their index
 
@@ -110,10 +110,6 @@ wire-was ps w = by (eqb (firstOf badEntry ps) 0) (ltb pathMost (length ps)) refl
 
 -- ---- reading what was written
 
--- a relay id is four bytes
-abbrev pub Ids : List RelayPath → Type 0
-Ids ps = (i : ℕ) → getD ps i noPath .«relay_id» < 4294967296
-
 six-first : (s v : List ℕ) → length s ≡ 6 → sixAt (s ++ v) 0 ≡ s
 six-first s v h = ap (λ (x : List ℕ). sixAt (x ++ v) 0) (sym (listed 6 s h)) ∙ listed 6 s h
 
@@ -130,7 +126,7 @@ six-skip s v i h =
     ◂ skip s v (suc i * 6 + 5) (i * 6 + 5) h (omega arith)
     ◂ refl
 
-entry-back : (ps : List RelayPath) → Ids ps → firstOf badEntry ps ≡ 0 → (i : ℕ) → i < length ps → entryAt (joined sixOf ps) i ≡ getD ps i noPath
+entry-back : (ps : List RelayPath) → FourByteIds ps → firstOf badEntry ps ≡ 0 → (i : ℕ) → i < length ps → entryAt (joined sixOf ps) i ≡ getD ps i noPath
 unfolding entryAt joined firstOf
 entry-back [] h e i l = absurd (not-suc-le-zero l)
 entry-back (p ∷ ps) h e zero l =
@@ -139,7 +135,7 @@ entry-back (p ∷ ps) h e (suc i) l =
     ap pathOf (six-skip (sixOf p) (joined sixOf ps) i (six-length p))
     ∙ entry-back ps (λ k. h (suc k)) (or-zero (badEntry p) (firstOf badEntry ps) e .1) i (le-of-suc-le-suc l)
 
-joined-bytes : (ps : List RelayPath) → Ids ps → firstOf badEntry ps ≡ 0 → Bytes (joined sixOf ps)
+joined-bytes : (ps : List RelayPath) → FourByteIds ps → firstOf badEntry ps ≡ 0 → Bytes (joined sixOf ps)
 unfolding joined firstOf
 joined-bytes [] h e i = omega arith
 joined-bytes (p ∷ ps) h e i =
@@ -147,7 +143,7 @@ joined-bytes (p ∷ ps) h e i =
     (joined-bytes ps (λ k. h (suc k)) (or-zero (badEntry p) (firstOf badEntry ps) e .1)) i
 
 -- what is written reads back as the same records
-pub beat-back : (ps : List RelayPath) (w : List ℕ) → Ids ps → beatWire ps ≡ bytes w → (length w ≡ length ps * 6) × (Bytes w) × (pathsOf w ≡ ps)
+pub beat-back : (ps : List RelayPath) (w : List ℕ) → FourByteIds ps → beatWire ps ≡ bytes w → (length w ≡ length ps * 6) × (Bytes w) × (pathsOf w ≡ ps)
 beat-back ps w h e =
     let g = wire-was ps w e in
     let l : length w ≡ length ps * 6 = ap length (g .2) ∙ joined-length ps in
@@ -169,15 +165,11 @@ beat-read ps w places e h =
 
 -- ---- writing what was read
 
--- the two bits above the snr, in the last byte of each entry, are cleared
-abbrev pub cleared : ℕ → ℕ → ℕ
-cleared i b = pick (eqb (i % 6) 5) (b % 64) b
+same : (v : List ℕ) (k : ℕ) → k < length v → (k % 6 ≡ 5 → ⊥) → getD v k 0 ≡ getD (imap entryByte 0 v) k 0
+same v k l h = sym (imap-at entryByte v k l ∙ simp (ne-eqb (k % 6) 5 h))
 
-same : (v : List ℕ) (k : ℕ) → k < length v → (k % 6 ≡ 5 → ⊥) → getD v k 0 ≡ getD (imap cleared 0 v) k 0
-same v k l h = sym (imap-at cleared v k l ∙ simp (ne-eqb (k % 6) 5 h))
-
-last : (v : List ℕ) (k : ℕ) → k < length v → k % 6 ≡ 5 → getD v k 0 % 64 ≡ getD (imap cleared 0 v) k 0
-last v k l h = sym (imap-at cleared v k l ∙ simp (eq-eqb (k % 6) 5 h))
+last : (v : List ℕ) (k : ℕ) → k < length v → k % 6 ≡ 5 → getD v k 0 % 64 ≡ getD (imap entryByte 0 v) k 0
+last v k l h = sym (imap-at entryByte v k l ∙ simp (eq-eqb (k % 6) 5 h))
 
 -- six bytes of a list at a place
 place : (s : List ℕ) (k j m : ℕ) → j < 6 → k + j ≡ m → getD (take 6 (drop k s)) j 0 ≡ getD s m 0
@@ -201,7 +193,7 @@ module _ (v : List ℕ) (h : Bytes v) where
   none-bad zero = refl
   none-bad (suc n) = first-snoc badEntry (entries v n) (entryAt v n) ∙ ap₂ orElse (none-bad n) (ap frameNumber (entry-again n))
 
-  six-again : (i : ℕ) → i * 6 + 6 ≤ length v → sixOf (entryAt v i) ≡ sixAt (imap cleared 0 v) (i * 6)
+  six-again : (i : ℕ) → i * 6 + 6 ≤ length v → sixOf (entryAt v i) ≡ sixAt (imap entryByte 0 v) (i * 6)
   unfolding sixOf
   six-again i l =
       let k = i * 6 in
@@ -214,12 +206,12 @@ module _ (v : List ℕ) (h : Bytes v) where
       ◂ last v (k + 5) (omega arith) (omega arith)
       ◂ refl)
 
-  entries-again : (n : ℕ) → n * 6 ≤ length v → joined sixOf (entries v n) ≡ take (n * 6) (imap cleared 0 v)
+  entries-again : (n : ℕ) → n * 6 ≤ length v → joined sixOf (entries v n) ≡ take (n * 6) (imap entryByte 0 v)
   unfolding entries joined
   entries-again zero l = refl
   entries-again (suc n) l =
-      let c = imap cleared 0 v in
-      let m : length c ≡ length v = imap-length cleared 0 v in
+      let c = imap entryByte 0 v in
+      let m : length c ≡ length v = imap-length entryByte 0 v in
       let e : n * 6 + 6 ≡ suc n * 6 = omega arith in
       joined-snoc sixOf (entries v n) (entryAt v n)
       ∙ ap₂ {B = List ℕ} (λ (x y : List ℕ). x ++ y) (entries-again n (omega arith)) (six-again n (omega arith) ∙ six-part c (n * 6) (omega arith))
@@ -227,17 +219,17 @@ module _ (v : List ℕ) (h : Bytes v) where
       ∙ ap (λ (j : ℕ). take j c) e
 
   -- a value of whole entries, read and written
-  pub beat-again : length v % 6 ≡ 0 → joined sixOf (pathsOf v) ≡ imap cleared 0 v
+  pub beat-again : length v % 6 ≡ 0 → joined sixOf (pathsOf v) ≡ imap entryByte 0 v
   unfolding pathsOf
   beat-again e =
-      let m : length (imap cleared 0 v) ≡ length v = imap-length cleared 0 v in
-      entries-again (length v / 6) (omega arith) ∙ take-all (length v / 6 * 6) (imap cleared 0 v) (omega arith)
+      let m : length (imap entryByte 0 v) ≡ length v = imap-length entryByte 0 v in
+      entries-again (length v / 6) (omega arith) ∙ take-all (length v / 6 * 6) (imap entryByte 0 v) (omega arith)
 
   paths-good : firstOf badEntry (pathsOf v) ≡ 0
   unfolding pathsOf
   paths-good = none-bad (length v / 6)
 
-  pub wire-again : length v % 6 ≡ 0 → length v ≤ 255 → beatWire (pathsOf v) ≡ bytes (imap cleared 0 v)
+  pub wire-again : length v % 6 ≡ 0 → length v ≤ 255 → beatWire (pathsOf v) ≡ bytes (imap entryByte 0 v)
   unfolding beatWire
   wire-again e l =
       let n : length (pathsOf v) ≡ length v / 6 = paths-length v in

@@ -6,36 +6,25 @@ use mathlib.Core.Bool.{Bool, true, false}
 use mathlib.Core.Path.{_≡_, refl, sym, ap, _∙_}
 use mathlib.Core.List.{List, [], _∷_, _++_, append-assoc, append-nil}
 use lib.Dec.{ltb, eqb}
-use lib.IntN.{pos}
 use lib.ListN.{length, getD, take, drop, set, length-append, length-drop}
 use lib.Seq.{take-suc, take-all, drop-cons, set-at, sets, sets-eq, length-take-le}
 use borrow.Author.Tests.{le-leb, lt-leb, ltb-false}
 use Rattle.base.specs.Pick.{pick}
 use Rattle.base.specs.Numbers.{itemLong, outputShort, outside, pathMost}
 use Rattle.base.specs.Lists.{orElse, firstOf, joined}
-use Rattle.base.specs.Answers.{Frame, bytes, refused, bytesOr, answerOf, outOf}
+use Rattle.base.specs.Answers.{Frame, bytes, refused, answerOf, outOf}
 use Rattle.base.specs.declared.Written.{Written}
 use Rattle.base.specs.declared.Written.the-variants.{Bytes as Done, Refused as NotDone}
 use Rattle.base.proofs.Lists.{listed}
 use Rattle.wire.specs.Lay.{put}
 use Rattle.wire.proofs.Laws.Lay.{put-fits, put-front, two-puts}
-use Rattle.wire.specs.Number.{beBytes}
-use Rattle.wire.proofs.Laws.Number.{be-length}
-use Rattle.fields.specs.Signal.{rssiByte, snrByte}
-use Rattle.fields.specs.Meta.{afterRssi}
-use Rattle.fields.specs.Path.{pathWire}
-use Rattle.fields.specs.declared.signal.SignalByte.{SignalByte}
-use Rattle.fields.specs.declared.signal.SignalByte.the-variants.{Byte, Refused as NoByte}
 use Rattle.fields.specs.declared.path.RelayPath.{RelayPath}
-use Rattle.heartbeats.specs.Heartbeat.{entryAt, entries, pathsOf, beatRefusal, beatOf, pathAfter, entryRead, beatWire}
+use Rattle.heartbeats.specs.Heartbeat.{entryAt, entries, pathsOf, beatRefusal, beatOf, pathAfter, entryRead, beatWire, noPath}
 use Rattle.fields.specs.Path.{badEntry, sixOf}
-use Rattle.heartbeats.specs.Steps.{countOf, verdictOf, placesOf}
+use Rattle.heartbeats.specs.Steps.{countOf, beatVerdict, placesOf}
 use Rattle.heartbeats.specs.declared.heartbeat.HeartbeatRead.the-variants.{Heartbeat, Refused as NoBeat}
 use Rattle.heartbeats.specs.declared.heartbeat.PathRead.the-variants.{Entry, Refused as NoEntry}
-
--- what `getD` gives beyond the end
-abbrev pub noPath : RelayPath
-noPath = record { «relay_id» = 0; rssi = pos 0; snr = pos 0 }
+use Rattle.fields.proofs.Laws.Path.{six-length, joined-length}
 
 -- ---- reading
 
@@ -127,21 +116,6 @@ unfolding joined
 joined-snoc f [] x = append-nil (f x)
 joined-snoc f (y ∷ xs) x = ap (λ (l : List ℕ). f y ++ l) (joined-snoc f xs x) ∙ sym (append-assoc (f y) (joined f xs) (f x))
 
--- six bytes, whatever the entry
-signals-length : (a : List ℕ) → length a ≡ 4 → (s r : SignalByte) → length (bytesOr 6 (afterRssi a [] s r)) ≡ 6
-signals-length a h s (NoByte n) = refl
-signals-length a h (NoByte n) (Byte r) = refl
-signals-length a h (Byte s) (Byte r) = length-append a (r ∷ s ∷ []) ∙ omega arith
-
-pub six-length : (p : RelayPath) → length (sixOf p) ≡ 6
-unfolding sixOf pathWire
-six-length p = signals-length (beBytes 4 (p .«relay_id»)) (be-length 4 (p .«relay_id»)) (snrByte (p .snr)) (rssiByte (p .rssi))
-
-pub joined-length : (ps : List RelayPath) → length (joined sixOf ps) ≡ length ps * 6
-unfolding joined
-joined-length [] = refl
-joined-length (p ∷ ps) = let e = joined-length ps in let s = six-length p in length-append (sixOf p) (joined sixOf ps) ∙ omega arith
-
 -- six stores, one behind the other, put the six bytes
 pub six-put : (o w : List ℕ) (k : ℕ) → length w ≡ 6 → k + 6 ≤ length o
     → set (set (set (set (set (set o k (getD w 0 0)) (k + 1) (getD w 1 0)) (k + 2) (getD w 2 0)) (k + 3) (getD w 3 0)) (k + 4) (getD w 4 0)) (k + 5) (getD w 5 0) ≡ put o k w
@@ -189,8 +163,8 @@ module _ (ps : List RelayPath) (o : List ℕ) where
   abbrev wires : Bool → Bool → Frame
   wires s t = pick s (pick t (refused itemLong) (bytes w)) (refused bad)
 
-  pub verdict-is : verdictOf bad (length ps) (length o) ≡ answerOf (beatWire ps) o
-  unfolding verdictOf beatWire answerOf
+  pub verdict-is : beatVerdict bad (length ps) (length o) ≡ answerOf (beatWire ps) o
+  unfolding beatVerdict beatWire answerOf
   verdict-is = by (eqb bad 0) (ltb pathMost (length ps))
     where
       by : (s t : Bool) → verdicts s t (ltb (length o) (length ps * 6)) ≡ answerOf (wires s t) o
@@ -198,8 +172,8 @@ module _ (ps : List RelayPath) (o : List ℕ) where
       by true true = refl
       by true false = ap (λ (n : ℕ). pick (ltb (length o) n) (NotDone outputShort) (Done n)) (sym (joined-length ps))
 
-  pub packed-fits : Fits (length o) (length ps) (placesOf (verdictOf bad (length ps) (length o)))
-  unfolding verdictOf
+  pub packed-fits : Fits (length o) (length ps) (placesOf (beatVerdict bad (length ps) (length o)))
+  unfolding beatVerdict
   packed-fits = by (eqb bad 0) (ltb pathMost (length ps)) (ltb (length o) (length ps * 6)) refl
     where
       by : (s t u : Bool) → ltb (length o) (length ps * 6) ≡ u → Fits (length o) (length ps) (placesOf (verdicts s t u))
@@ -208,8 +182,8 @@ module _ (ps : List RelayPath) (o : List ℕ) where
       by true false true e = record { bytes = omega arith; room = omega arith }
       by true false false e = let h : length ps * 6 ≤ length o = ltb-false _ _ e in record { bytes = omega arith; room = omega arith }
 
-  pub packed-all : packed ps o (placesOf (verdictOf bad (length ps) (length o))) ≡ outOf (beatWire ps) o
-  unfolding verdictOf beatWire outOf
+  pub packed-all : packed ps o (placesOf (beatVerdict bad (length ps) (length o))) ≡ outOf (beatWire ps) o
+  unfolding beatVerdict beatWire outOf
   packed-all = by (eqb bad 0) (ltb pathMost (length ps)) (ltb (length o) (length ps * 6)) refl
     where
       by : (s t u : Bool) → ltb (length o) (length ps * 6) ≡ u → packed ps o (placesOf (verdicts s t u)) ≡ outOf (wires s t) o

@@ -1,14 +1,14 @@
 -- A heartbeat's value: a path of entries, six bytes each. Assumes nothing.
-use Prim.Native.Nat.{ℕ, zero, suc, _+_, _*_, _/_, _%_}
+use Prim.Native.Nat.{ℕ, zero, suc, _+_, _*_, _/_, _%_, _<_}
 use mathlib.Core.List.{List, [], _∷_, _++_}
 use lib.Dec.{ltb, leb, eqb}
+use lib.IntN.{pos}
 use lib.ListN.{length, getD, drop}
 use Rattle.base.specs.Pick.{pick}
 use Rattle.base.specs.Numbers.{itemLong, heartbeatLength, outputShort, outside, itemMost, pathMost}
 use Rattle.base.specs.Lists.{firstOf, joined}
-use Rattle.base.specs.Answers.{Answer, value, number, Frame, bytes, refused}
+use Rattle.base.specs.Answers.{Answer, value, number, Frame, bytes, refused, unlessRefused}
 use Rattle.fields.specs.Path.{pathOf, badEntry, sixOf}
-use Rattle.fields.specs.Meta.{unlessRefused}
 use Rattle.fields.specs.declared.path.RelayPath.{RelayPath}
 use Rattle.heartbeats.specs.declared.heartbeat.HeartbeatPayload.{HeartbeatPayload}
 use Rattle.heartbeats.specs.declared.heartbeat.HeartbeatRead.{HeartbeatRead}
@@ -59,6 +59,14 @@ entryRead v i = pick (leb (i * 6 + 6) (length v)) (Entry (entryAt v i)) (NoEntry
 -- the first bad entry's number, 19 for more than 42 entries, or the bytes of all entries, one behind the other
 unfoldable pub beatWire : List RelayPath → Frame
 beatWire ps = unlessRefused (firstOf badEntry ps) (pick (ltb pathMost (length ps)) (refused itemLong) (bytes (joined sixOf ps)))
+
+-- ---- what is asked of a path that reads back: each relay id is four bytes
+
+abbrev pub noPath : RelayPath
+noPath = record { «relay_id» = 0; rssi = pos 0; snr = pos 0 }
+
+abbrev pub FourByteIds : List RelayPath → Type 0
+FourByteIds ps = (i : ℕ) → getD ps i noPath .«relay_id» < 4294967296
 
 -- ---- document 01's number, or the value, of each answer
 

@@ -14,8 +14,8 @@ countOf (Heartbeat h) = h .entries
 countOf (NoBeat n) = 0
 
 -- of n entries, the first bad one's number being bad, and an output of so many places
-unfoldable pub verdictOf : ℕ → ℕ → ℕ → Written
-verdictOf bad n room =
+unfoldable pub beatVerdict : ℕ → ℕ → ℕ → Written
+beatVerdict bad n room =
     pick (eqb bad 0)
     (pick (ltb pathMost n) (Refused itemLong) (pick (ltb room (n * 6)) (Refused outputShort) (Bytes (n * 6))))
     (Refused bad)

@@ -8,7 +8,7 @@ ghost use Rattle.base.specs.Answers.{answerOf, outOf};
 ghost use Rattle.wire.specs.Lay.{put};
 ghost use Rattle.heartbeats.specs.Heartbeat.{entryAt, beatOf, pathAfter, entryRead, beatWire};
 ghost use Rattle.fields.specs.Path.{badEntry, sixOf};
-ghost use Rattle.heartbeats.specs.Steps.{countOf, verdictOf, placesOf};
+ghost use Rattle.heartbeats.specs.Steps.{countOf, beatVerdict, placesOf};
 use base::Checked;
 use base::Limit;
 use base::Refusal;
@@ -84,7 +84,7 @@ fn first_bad(relay_path: &[RelayPath]) -> u8
 
 // What writing n entries answers.
 fn verdict(bad: u8, n: usize, room: usize) -> Written
-    ensures { λ r. ⌜ r ≡ verdictOf bad n room ⌝ }
+    ensures { λ r. ⌜ r ≡ beatVerdict bad n room ⌝ }
 {
     if bad != 0 {
         return Written::Refused(bad);

@@ -31,8 +31,9 @@ use Rattle.trips.proofs.Which.{body-length}
 use Rattle.trips.proofs.Again.{was-read}
 use Rattle.trips.proofs.Same.{body-bytes, clearedBody, body-again, cleared-length}
 use Rattle.mic.specs.Mic.{micOf, fitting, signedOf, carryingMic, signedBy, setMic}
-use Rattle.hops.specs.Hops.{alone, counted, writtenOf, signedAnew, hopEdit, leaves}
-use Rattle.hops.specs.Steps.{isUplink, lowSix, renewed, stamped, rewritten}
+use Rattle.hops.specs.Hops.{alone, carryingCount, writtenOf, signedAnew, hopEdit, leaves}
+use Rattle.trips.specs.Which.{lowSix}
+use Rattle.hops.specs.Steps.{isUplink, renewed, micLaid, rewritten}
 
 -- a message, and the MIC over it
 abbrev pub sealedWith : (List ℕ → List ℕ) → ℕ → List ℕ → List ℕ
@@ -70,9 +71,9 @@ front (x ∷ s) b up h =
     ap (λ (k : ℕ). take k (renewed b up (x ∷ s))) e ∙ front-by b x s up n
 
 -- a message and four bytes, signed in place
-stamped-is : (E : List ℕ → List ℕ) (end : ℕ) (s w : List ℕ) → length s ≡ end + 4 → take end s ≡ w → stamped E end s ≡ w ++ beBytes 4 (micOf E w)
-unfolding stamped
-stamped-is E end s w l f =
+laid-is : (E : List ℕ → List ℕ) (end : ℕ) (s w : List ℕ) → length s ≡ end + 4 → take end s ≡ w → micLaid E end s ≡ w ++ beBytes 4 (micOf E w)
+unfolding micLaid
+laid-is E end s w l f =
     let v = beBytes 4 (micOf E (take end s)) in
     let n : length v ≡ 4 = be-length 4 (micOf E (take end s)) in
     let h : end + length v ≤ length s = omega arith in
@@ -125,10 +126,10 @@ module _ (s : List ℕ) (p : MeshPacket) (small : Bytes s) (read : meshOf s ≡ 
       unfolding setMic
       set-is E = ap (signedBy E packet) signed-is
 
-    pub edit-is : (E : List ℕ → List ℕ) (n : ℕ) → headerByte (counted p n .mhdr) ≡ Byte b → hopEdit E s n ≡ bytes (sealedWith E b C)
+    pub edit-is : (E : List ℕ → List ℕ) (n : ℕ) → headerByte (carryingCount p n .mhdr) ≡ Byte b → hopEdit E s n ≡ bytes (sealedWith E b C)
     unfolding hopEdit meshFrame withMic
     edit-is E n e =
-        let h = counted p n .mhdr in
+        let h = carryingCount p n .mhdr in
         let m = micOf E (b ∷ C) in
         ap (signedAnew E s n) read
         ∙ ap (writtenOf (alone s)) (set-is h (p .«has_mic») (p .mic) e E)
@@ -146,10 +147,10 @@ module _ (s : List ℕ) (p : MeshPacket) (small : Bytes s) (read : meshOf s ≡ 
         let k = renewed-length b (isUplink t) s in
         let e : length X ≡ length s - 4 + 4 = omega arith in
         simp (lt-ltb 0 (length s - 4) n)
-        (stamped-is E (length s - 4) X (b ∷ C) e
+        (laid-is E (length s - 4) X (b ∷ C) e
         (front s b (isUplink t) l ∙ ap (λ (v : List ℕ). b ∷ v) (cleared-by t)))
 
-    pub rewritten-is : (E : List ℕ → List ℕ) (n : ℕ) → headerByte (counted p n .mhdr) ≡ Byte b → (up : Bool) (x : List ℕ) → up ≡ isUplink (p .mhdr .«payload_type») → x ≡ rewritten E b up s
+    pub rewritten-is : (E : List ℕ → List ℕ) (n : ℕ) → headerByte (carryingCount p n .mhdr) ≡ Byte b → (up : Bool) (x : List ℕ) → up ≡ isUplink (p .mhdr .«payload_type») → x ≡ rewritten E b up s
         → x ≡ leaves (hopEdit E s n) s
     rewritten-is E n e up x f g = g ∙ ap (λ (u : Bool). rewritten E b u s) f ∙ in-place E ∙ sym (ap (λ (y : Frame). leaves y s) (edit-is E n e))
 
@@ -159,8 +160,8 @@ unfolding hopEdit
 edit-unread E s k n e = ap (signedAnew E s n) e
 
 -- 6, 7
-pub edit-uncounted : (E : List ℕ → List ℕ) (s : List ℕ) (p : MeshPacket) (k n : ℕ) → meshOf s ≡ Mesh p → headerByte (counted p n .mhdr) ≡ NoByte k → hopEdit E s n ≡ refused k
+pub edit-uncounted : (E : List ℕ → List ℕ) (s : List ℕ) (p : MeshPacket) (k n : ℕ) → meshOf s ≡ Mesh p → headerByte (carryingCount p n .mhdr) ≡ NoByte k → hopEdit E s n ≡ refused k
 unfolding hopEdit setMic signedOf fitting messageOf
 edit-uncounted E s p k n e f =
     ap (signedAnew E s n) e
-    ∙ ap (λ (x : HeaderByte). writtenOf (alone s) (signedBy E (counted p n) (fitting (behind x (payloadWire (alone s) (p .payload)))))) f
+    ∙ ap (λ (x : HeaderByte). writtenOf (alone s) (signedBy E (carryingCount p n) (fitting (behind x (payloadWire (alone s) (p .payload)))))) f

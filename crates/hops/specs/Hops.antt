@@ -2,6 +2,7 @@
 use Prim.Native.Nat.{ℕ}
 use mathlib.Core.List.{List, []}
 use Rattle.base.specs.Answers.{Frame, bytes, refused}
+use Rattle.fields.specs.declared.header.MHDR.{MHDR}
 use Rattle.bodies.specs.Body.{Lent, lent}
 use Rattle.packets.specs.Read.{meshOf}
 use Rattle.packets.specs.Write.{meshFrame}
@@ -14,15 +15,12 @@ use Rattle.mic.specs.Mic.{setMic}
 abbrev pub alone : List ℕ → Lent
 alone s = lent s [] [] [] [] [] []
 
--- the packet with another hop count
-abbrev pub counted : MeshPacket → ℕ → MeshPacket
-counted p n =
-    record {
-      mhdr = record { «payload_type» = p .mhdr .«payload_type»; «hop_count» = n };
-      payload = p .payload;
-      «has_mic» = p .«has_mic»;
-      mic = p .mic;
-    }
+-- a header, and a packet, with another hop count
+abbrev pub recounted : MHDR → ℕ → MHDR
+recounted h n = record { «payload_type» = h .«payload_type»; «hop_count» = n }
+
+abbrev pub carryingCount : MeshPacket → ℕ → MeshPacket
+carryingCount p n = record { mhdr = recounted (p .mhdr) n; payload = p .payload; «has_mic» = p .«has_mic»; mic = p .mic }
 
 abbrev pub writtenOf : Lent → MeshRead → Frame
 writtenOf l (Refused k) = refused k
@@ -30,7 +28,7 @@ writtenOf l (Mesh p) = meshFrame l p
 
 abbrev pub signedAnew : (List ℕ → List ℕ) → List ℕ → ℕ → MeshRead → Frame
 signedAnew E s n (Refused k) = refused k
-signedAnew E s n (Mesh p) = writtenOf (alone s) (setMic E (alone s) (counted p n))
+signedAnew E s n (Mesh p) = writtenOf (alone s) (setMic E (alone s) (carryingCount p n))
 
 -- read, set the count, sign, write: the frame, or the first refusal of these in turn
 unfoldable pub hopEdit : (List ℕ → List ℕ) → List ℕ → ℕ → Frame

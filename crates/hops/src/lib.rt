@@ -4,8 +4,8 @@ ghost use Prim.Native.Nat.{_-_, _≤_};
 ghost use lib.ListN.{length};
 ghost use Rattle.base.specs.Answers.{checkedOf};
 ghost use Rattle.fips197.specs.Aes.{aes};
-ghost use Rattle.hops.specs.Hops.{hopEdit, leaves};
-ghost use Rattle.hops.specs.Steps.{isUplink, recounted, renewed, stamped, rewritten};
+ghost use Rattle.hops.specs.Hops.{hopEdit, leaves, recounted};
+ghost use Rattle.hops.specs.Steps.{isUplink, renewed, micLaid, rewritten};
 use aes128::Aes128Key;
 use base::Checked;
 use cmac::cmac;
@@ -60,9 +60,9 @@ fn renew(frame: &mut [u8], first: u8, up: bool)
 }
 
 // The MIC over all that stands before it.
-fn stamp(frame: &mut [u8], end: usize, key: Aes128Key)
+fn lay_mic(frame: &mut [u8], end: usize, key: Aes128Key)
     requires { ⌜ end ≤ length (now frame) ⌝ }
-    ensures { λ _. ⌜ now (frame .exit) ≡ stamped (aes (key .0)) end (now (frame .entry)) ⌝ }
+    ensures { λ _. ⌜ now (frame .exit) ≡ micLaid (aes (key .0)) end (now (frame .entry)) ⌝ }
 {
     let tag = cmac(key, &frame[..end]);
     put_all(&tag[..4], frame, end);
@@ -75,7 +75,7 @@ fn rewrite(frame: &mut [u8], first: u8, up: bool, key: Aes128Key)
     let end = mic_at(frame);
     if 0 < end {
         renew(frame, first, up);
-        stamp(frame, end, key);
+        lay_mic(frame, end, key);
     }
 }
 

@@ -10,9 +10,8 @@ use lib.ListN.{length, getD, take, drop, length-drop, drop-of-length-le}
 use lib.Seq.{drop-cons, drop-drop, length-take-le}
 use borrow.Author.Tests.{lt-ltb, le-ltb, le-leb, lt-leb, ltb-true, ltb-false, leb-true, leb-false}
 use Rattle.base.specs.Pick.{pick}
-use Rattle.items.specs.Items.{badBeat, Piece, kept, skipped, cut, pieces, itemOf, tailAt, itemAt, keptBytes, skippedBytes, cutBytes}
+use Rattle.items.specs.Items.{badBeat, Piece, kept, skipped, cut, pieces, itemAt, keptBytes, skippedBytes, cutBytes, Turn}
 use Rattle.items.specs.declared.item.ItemRead.{ItemRead}
-use Rattle.items.specs.declared.item.ItemRead.the-variants.{Kept, Skipped, Cut, End, Refused}
 
 -- to pass over k bytes is to read what is left without them
 pub skip : (ev : Bool) (k : ℕ) (s : List ℕ) → pieces ev k s ≡ pieces ev 0 (drop k s)
@@ -40,18 +39,6 @@ step ev t n rest h =
 pub stop : (ev : Bool) (t n : ℕ) (rest : List ℕ) → length rest < n → pieces ev 0 (t ∷ n ∷ rest) ≡ cut (t ∷ n ∷ rest) ∷ []
 unfolding pieces
 stop ev t n rest h = simp (lt-leb _ _ h)
-
--- what the answer at a place says of the pieces from there
-abbrev pub Turn : Bool → List ℕ → ℕ → ItemRead → Type 0
-Turn ev s at (Kept i nx) =
-    (i ≡ itemOf ev s at) × (nx ≡ at + 2 + getD s (at + 1) 0) × (nx ≤ length s)
-    × (pieces ev 0 (drop at s) ≡ kept (getD s at 0) (take (getD s (at + 1) 0) (drop (at + 2) s)) ∷ pieces ev 0 (drop nx s))
-Turn ev s at (Skipped i nx) =
-    (i ≡ itemOf ev s at) × (nx ≡ at + 2 + getD s (at + 1) 0) × (nx ≤ length s)
-    × (pieces ev 0 (drop at s) ≡ skipped (take (getD s (at + 1) 0) (drop (at + 2) s)) ∷ pieces ev 0 (drop nx s))
-Turn ev s at (Cut r) = (r ≡ tailAt s at) × (at < length s) × (pieces ev 0 (drop at s) ≡ cut (drop at s) ∷ [])
-Turn ev s at End = (length s ≤ at) × (pieces ev 0 (drop at s) ≡ [])
-Turn ev s at (Refused n) = ⊥
 
 module _ (ev : Bool) (s : List ℕ) (at : ℕ) where
   ended : length s ≤ at → Turn ev s at (itemAt ev s at)

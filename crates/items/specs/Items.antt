@@ -1,10 +1,11 @@
 -- The items of a payload: tag, length, value; how the reader goes from one to the next, and what an opening reports of them. `ev` says
 -- whether the payload is an event's. Assumes nothing.
-use Prim.Native.Nat.{ℕ, zero, suc, _+_, _-_, _%_}
+use Prim.Native.Nat.{ℕ, zero, suc, _+_, _-_, _%_, _≤_, _<_}
 use mathlib.Core.Bool.{Bool, true, false, not}
+use mathlib.Core.Path.{_≡_}
 use mathlib.Core.List.{List, [], _∷_}
 use lib.Dec.{ltb, leb, eqb}
-use lib.ListN.{length, getD, take}
+use lib.ListN.{length, getD, take, drop}
 use Rattle.base.specs.Pick.{pick}
 use Rattle.base.specs.Numbers.{frameLong, payloadMost}
 use Rattle.base.specs.Answers.{Answer, value, number}
@@ -128,9 +129,21 @@ itemAt ev s at =
     (Skipped (itemOf ev s at) (at + 2 + getD s (at + 1) 0))
     (Kept (itemOf ev s at) (at + 2 + getD s (at + 1) 0)))))
 
+-- what the answer at a place says of the pieces from there
+abbrev pub Turn : Bool → List ℕ → ℕ → ItemRead → Type 0
+Turn ev s at (Kept i nx) =
+    (i ≡ itemOf ev s at) × (nx ≡ at + 2 + getD s (at + 1) 0) × (nx ≤ length s)
+    × (pieces ev 0 (drop at s) ≡ kept (getD s at 0) (take (getD s (at + 1) 0) (drop (at + 2) s)) ∷ pieces ev 0 (drop nx s))
+Turn ev s at (Skipped i nx) =
+    (i ≡ itemOf ev s at) × (nx ≡ at + 2 + getD s (at + 1) 0) × (nx ≤ length s)
+    × (pieces ev 0 (drop at s) ≡ skipped (take (getD s (at + 1) 0) (drop (at + 2) s)) ∷ pieces ev 0 (drop nx s))
+Turn ev s at (Cut r) = (r ≡ tailAt s at) × (at < length s) × (pieces ev 0 (drop at s) ≡ cut (drop at s) ∷ [])
+Turn ev s at End = (length s ≤ at) × (pieces ev 0 (drop at s) ≡ [])
+Turn ev s at (Refused n) = ⊥
+
 -- of a bare payload: 5 where it is over 8,179 bytes
-unfoldable pub decodeOf : Bool → List ℕ → ℕ → ItemRead
-decodeOf ev s at = pick (ltb payloadMost (length s)) (Refused frameLong) (itemAt ev s at)
+unfoldable pub bareItemAt : Bool → List ℕ → ℕ → ItemRead
+bareItemAt ev s at = pick (ltb payloadMost (length s)) (Refused frameLong) (itemAt ev s at)
 
 -- ---- a sealed run as one item, and an item's type
 
@@ -148,14 +161,14 @@ typeOf i = tagUnlessSealed (i .kind) (i .tag)
 -- ---- what the reader says: an item kept or skipped and the place of the next, the tail that is cut, or none from the end on
 
 pub data Found : Type 0 where
-  kept : Item → ℕ → Found
-  skipped : Item → ℕ → Found
-  cut : Run → Found
-  none : Found
+  keptItem : Item → ℕ → Found
+  skippedItem : Item → ℕ → Found
+  cutTail : Run → Found
+  noItem : Found
 
 abbrev pub itemSays : ItemRead → Answer Found
-itemSays (Kept i next) = value (kept i next)
-itemSays (Skipped i next) = value (skipped i next)
-itemSays (Cut r) = value (cut r)
-itemSays End = value none
+itemSays (Kept i next) = value (keptItem i next)
+itemSays (Skipped i next) = value (skippedItem i next)
+itemSays (Cut r) = value (cutTail r)
+itemSays End = value noItem
 itemSays (Refused n) = number n

@@ -1,7 +1,7 @@
 // One item at a time, at a place in the payload that the caller keeps.
 ghost use mathlib.Core.Path.{_≡_};
 ghost use mathlib.Core.Bool as Bool;
-ghost use Rattle.items.specs.Items.{kindOf, badBeat, itemAt, decodeOf, sealedItem, typeOf};
+ghost use Rattle.items.specs.Items.{kindOf, badBeat, itemAt, bareItemAt, sealedItem, typeOf};
 use base::Limit;
 use base::Refusal;
 use base::wide;
@@ -98,7 +98,7 @@ pub fn next_item(payload: &[u8], at: usize, is_event: bool) -> ItemRead
 impl Event {
     // The item of an event's payload at a place: 5 where the payload is too long for any frame.
     pub fn decode(payload: &[u8], at: usize) -> ItemRead
-        ensures { λ r. ⌜ r ≡ decodeOf Bool.true (now (payload .entry)) at ⌝ }
+        ensures { λ r. ⌜ r ≡ bareItemAt Bool.true (now (payload .entry)) at ⌝ }
     {
         if Limit::PAYLOAD < payload.len() {
             return ItemRead::Refused(Refusal::FRAME_LONG);
@@ -110,7 +110,7 @@ impl Event {
 impl Command {
     // Of a command's: it has no heartbeat, and tag 0 is an ordinary item.
     pub fn decode(payload: &[u8], at: usize) -> ItemRead
-        ensures { λ r. ⌜ r ≡ decodeOf Bool.false (now (payload .entry)) at ⌝ }
+        ensures { λ r. ⌜ r ≡ bareItemAt Bool.false (now (payload .entry)) at ⌝ }
     {
         if Limit::PAYLOAD < payload.len() {
             return ItemRead::Refused(Refusal::FRAME_LONG);

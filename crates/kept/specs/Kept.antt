@@ -2,19 +2,19 @@
 use Prim.Native.Nat.{ℕ, _%_}
 use mathlib.Core.Bool.{Bool}
 use mathlib.Core.List.{List, [], _∷_, _++_}
-use lib.Dec.{eqb}
 use lib.ListN.{length}
 use Rattle.base.specs.Pick.{pick}
 use Rattle.base.specs.Lists.{imap}
+use Rattle.fields.specs.Path.{entryByte}
 use Rattle.items.specs.Items.{isBeat, Piece, kept, skipped, cut, pieces}
 
 -- tag, length and value
 abbrev pub headed : ℕ → List ℕ → List ℕ
 headed t v = t ∷ length v % 256 ∷ v
 
--- byte i of a value: in a heartbeat the top two bits of each entry's sixth byte, which hold the snr, are written as 0
+-- byte i of a value: of a heartbeat's entries as they are written
 unfoldable pub fixed : Bool → ℕ → ℕ → ℕ
-fixed beat i b = pick beat (pick (eqb (i % 6) 5) (b % 64) b) b
+fixed beat i b = pick beat (entryByte i b) b
 
 unfoldable pub itemBytes : Bool → ℕ → List ℕ → List ℕ
 itemBytes beat t v = headed t (imap (fixed beat) 0 v)

@@ -7,8 +7,6 @@ use lib.Dec.{ltb}
 use lib.IntN.{ℤ}
 use Rattle.base.specs.Pick.{pick}
 use Rattle.base.specs.Answers.{Answer, value, number, Frame, refused}
-use Rattle.base.specs.declared.Checked.{Checked}
-use Rattle.base.specs.declared.Checked.the-variants.{Accepted, Refused}
 use Rattle.aes128.specs.declared.Aes128Key.{Aes128Key}
 use Rattle.fields.specs.Header.{codeOf, headerByte}
 use Rattle.fields.specs.declared.header.MHDR.{MHDR}
@@ -22,7 +20,7 @@ use Rattle.fields.specs.declared.meta.UplinkMetadata.{UplinkMetadata}
 use Rattle.fields.specs.declared.meta.DownlinkMetadata.{DownlinkMetadata}
 use Rattle.fields.specs.declared.path.RelayPath.{RelayPath}
 use Rattle.heartbeats.specs.declared.heartbeat.HeartbeatPayload.{HeartbeatPayload}
-use Rattle.items.specs.Items.{Found, kept, skipped, cut, none}
+use Rattle.items.specs.Items.{Found, keptItem, skippedItem, cutTail, noItem}
 use Rattle.items.specs.declared.item.Item.{Item}
 use Rattle.items.specs.declared.item.ItemKind.{ItemKind}
 use Rattle.items.specs.declared.item.ItemKind.the-variants.{Encrypted, Heartbeat, Proprietary}
@@ -65,10 +63,6 @@ use Rattle.packed.specs.Packed.{addAnswer, addWords}
 
 -- ---- keys, fields and items
 
-abbrev pub checkedNumber : Checked → ℕ
-checkedNumber Accepted = 0
-checkedNumber (Refused n) = n
-
 abbrev pub asItIs : {A : Type 0} → A → A
 asItIs a = a
 
@@ -80,9 +74,9 @@ abbrev pub headerList : MHDR → List ℕ
 headerList h = codeOf (h .«payload_type») ∷ h .«hop_count» ∷ []
 
 -- 29 of the type, then 6 and 7
-abbrev pub byteOf : ℕ → TypeRead → HeaderByte
-byteOf hops (Kind t) = headerByte (record { «payload_type» = t; «hop_count» = hops })
-byteOf hops (NoKind n) = NoByte n
+abbrev pub headerByteBy : ℕ → TypeRead → HeaderByte
+headerByteBy hops (Kind t) = headerByte (record { «payload_type» = t; «hop_count» = hops })
+headerByteBy hops (NoKind n) = NoByte n
 
 abbrev pub upList : UplinkMetadata → List ℕ
 upList m = m .«uplink_id» ∷ m .dr ∷ m .channel ∷ []
@@ -104,10 +98,10 @@ itemList what i next = what ∷ kindNumber (i .kind) ∷ i .tag ∷ i .value .st
 
 -- what was found, its kind and tag, place and length of its value or of the tail, and the place behind it
 abbrev pub foundList : Found → List ℕ
-foundList none = 0 ∷ 0 ∷ 0 ∷ 0 ∷ 0 ∷ 0 ∷ []
-foundList (kept i next) = itemList 1 i next
-foundList (skipped i next) = itemList 2 i next
-foundList (cut r) = 3 ∷ 0 ∷ 0 ∷ r .start ∷ r .len ∷ 0 ∷ []
+foundList noItem = 0 ∷ 0 ∷ 0 ∷ 0 ∷ 0 ∷ 0 ∷ []
+foundList (keptItem i next) = itemList 1 i next
+foundList (skippedItem i next) = itemList 2 i next
+foundList (cutTail r) = 3 ∷ 0 ∷ 0 ∷ r .start ∷ r .len ∷ 0 ∷ []
 
 abbrev pub entriesIn : HeartbeatPayload → ℕ
 entriesIn h = h .entries
@@ -157,49 +151,49 @@ abbrev pub meshSnr : MeshPacket → ℤ
 meshSnr p = flatOfMesh p .snr
 
 -- of one that was signed, and of one that was sealed or opened
-abbrev pub micIn : MeshPacket → ℕ
-micIn p = p .mic
+abbrev pub meshMic : MeshPacket → ℕ
+meshMic p = p .mic
 
-abbrev pub placeIn : MeshPacket → List ℕ
-placeIn p = placed (flatOfMesh p)
+abbrev pub meshPlace : MeshPacket → List ℕ
+meshPlace p = placed (flatOfMesh p)
 
 -- ---- what is done to the packet that numbers stand for; 29 where they stand for none
 
-abbrev pub ofMesh : {A : Type 0} → (MeshPacket → A) → (ℕ → A) → MeshRead → A
-ofMesh f g (Mesh p) = f p
-ofMesh f g (NoMesh n) = g n
+abbrev pub ifMesh : {A : Type 0} → (MeshPacket → A) → (ℕ → A) → MeshRead → A
+ifMesh f g (Mesh p) = f p
+ifMesh f g (NoMesh n) = g n
 
-abbrev pub ofPacket : {A : Type 0} → (Packet → A) → (ℕ → A) → PacketRead → A
-ofPacket f g (PacketIs p) = f p
-ofPacket f g (NoPacket n) = g n
+abbrev pub ifPacket : {A : Type 0} → (Packet → A) → (ℕ → A) → PacketRead → A
+ifPacket f g (PacketIs p) = f p
+ifPacket f g (NoPacket n) = g n
 
 unfoldable pub flatFrame : Lent → Flat → Frame
-flatFrame l f = ofPacket (packetFrame l) refused (packetFrom f)
+flatFrame l f = ifPacket (packetFrame l) refused (packetFrom f)
 
 -- the body alone
 unfoldable pub flatBody : Lent → Flat → Frame
-flatBody l f = ofMesh (λ (p : MeshPacket). limitedOf (payloadWire l (p .payload))) refused (meshFrom f)
+flatBody l f = ifMesh (λ (p : MeshPacket). limitedOf (payloadWire l (p .payload))) refused (meshFrom f)
 
 unfoldable pub flatSigned : (List ℕ → List ℕ) → Lent → Flat → MeshRead
-flatSigned E l f = ofMesh (setMic E l) NoMesh (meshFrom f)
+flatSigned E l f = ifMesh (setMic E l) NoMesh (meshFrom f)
 
 unfoldable pub flatValid : (List ℕ → List ℕ) → Lent → Flat → Validated
-flatValid E l f = ofMesh (validateMic E l) NotValidated (meshFrom f)
+flatValid E l f = ifMesh (validateMic E l) NotValidated (meshFrom f)
 
 unfoldable pub flatSealed : List ℕ → Lent → Flat → List ℕ → MeshRead
-flatSealed k l f out = ofMesh (λ (p : MeshPacket). meshSealed k l p (p .payload) out) NoMesh (meshFrom f)
+flatSealed k l f out = ifMesh (λ (p : MeshPacket). meshSealed k l p (p .payload) out) NoMesh (meshFrom f)
 
 unfoldable pub flatSeal : List ℕ → Lent → Flat → Frame
-flatSeal k l f = ofMesh (λ (p : MeshPacket). sealOf k l (p .payload)) refused (meshFrom f)
+flatSeal k l f = ifMesh (λ (p : MeshPacket). sealOf k l (p .payload)) refused (meshFrom f)
 
 unfoldable pub flatDecrypted : List ℕ → Flat → List ℕ → List ℕ → MeshOpened
-flatDecrypted k f frame work = ofMesh (λ (p : MeshPacket). meshDecrypted k p (p .payload) frame work) NotOpened (meshFrom f)
+flatDecrypted k f frame work = ifMesh (λ (p : MeshPacket). meshDecrypted k p (p .payload) frame work) NotOpened (meshFrom f)
 
 unfoldable pub flatWork : List ℕ → Flat → List ℕ → List ℕ → List ℕ
-flatWork k f frame work = ofMesh (λ (p : MeshPacket). meshWork k (p .payload) frame work) (λ (n : ℕ). work) (meshFrom f)
+flatWork k f frame work = ifMesh (λ (p : MeshPacket). meshWork k (p .payload) frame work) (λ (n : ℕ). work) (meshFrom f)
 
 unfoldable pub flatDecoded : Flat → List ℕ → List ℕ → MeshOpened
-flatDecoded f frame work = ofMesh (λ (p : MeshPacket). meshDecoded p (p .payload) frame work) NotOpened (meshFrom f)
+flatDecoded f frame work = ifMesh (λ (p : MeshPacket). meshDecoded p (p .payload) frame work) NotOpened (meshFrom f)
 
 -- an opening says 255 where the body was open before
 abbrev pub openedNumber : {A : Type 0} → Answer (Told A) → ℕ
@@ -213,7 +207,7 @@ countsLeft old (value wasOpen) = old
 countsLeft old (number n) = old
 
 abbrev pub placeLeft : List ℕ → Answer (Told MeshPacket) → List ℕ
-placeLeft old (value (told p o)) = placeIn p
+placeLeft old (value (told p o)) = meshPlace p
 placeLeft old (value wasOpen) = old
 placeLeft old (number n) = old
 
@@ -238,16 +232,16 @@ abbrev pub bareCommand : CommandRead → MeshRead
 bareCommand (CommandIs p) = Mesh (bare Command (ACommand p))
 bareCommand (NoCommand n) = NoMesh n
 
-unfoldable pub bodyOf : PayloadType → List ℕ → MeshRead
-bodyOf Uplink s = bareUplink (uplinkAt 0 s)
-bodyOf Downlink s = bareDownlink (downlinkAt 0 s)
-bodyOf Event s = bareEvent (eventAt 0 s)
-bodyOf Command s = bareCommand (commandAt 0 s)
+unfoldable pub bareOf : PayloadType → List ℕ → MeshRead
+bareOf Uplink s = bareUplink (uplinkAt 0 s)
+bareOf Downlink s = bareDownlink (downlinkAt 0 s)
+bareOf Event s = bareEvent (eventAt 0 s)
+bareOf Command s = bareCommand (commandAt 0 s)
 
 -- 29, then as the reader of its type
-abbrev pub bodyBy : List ℕ → TypeRead → MeshRead
-bodyBy s (Kind t) = bodyOf t s
-bodyBy s (NoKind n) = NoMesh n
+abbrev pub bareBy : List ℕ → TypeRead → MeshRead
+bareBy s (Kind t) = bareOf t s
+bareBy s (NoKind n) = NoMesh n
 
 -- ---- the duplicate cache
 

@@ -5,7 +5,7 @@ ghost use Rattle.fields.specs.Header.{typeSays, typeRead, headerSays, headerOf,
 ghost use Rattle.fields.specs.Meta.{upOf, upBytes, downOf, downBytes};
 ghost use Rattle.fields.specs.Freq.{freqSays, freqRead, freqBytes};
 ghost use Rattle.fields.specs.Path.{pathOf, pathBytes};
-ghost use Rattle.mesh_c.specs.Face.{asItIs, headerList, byteOf, upList, downList};
+ghost use Rattle.mesh_c.specs.Face.{asItIs, headerList, headerByteBy, upList, downList};
 use base::Checked;
 use fields::DownlinkMetadata;
 use fields::FreqRead;
@@ -50,7 +50,7 @@ pub extern "C" fn mesh_header_read(b: u8, header: &mut [u8; 2]) -> u8
 }
 
 fn header_byte(type_code: u8, hop_count: u8) -> HeaderByte
-    ensures { λ r. ⌜ r ≡ byteOf «hop_count» (typeRead «type_code») ⌝ }
+    ensures { λ r. ⌜ r ≡ headerByteBy «hop_count» (typeRead «type_code») ⌝ }
 {
     match PayloadType::from_byte(type_code) {
         TypeRead::Refused(n) => HeaderByte::Refused(n),
@@ -67,8 +67,8 @@ fn header_byte(type_code: u8, hop_count: u8) -> HeaderByte
 // And back: 0, or 29, 6, 7.
 #[no_mangle]
 pub extern "C" fn mesh_header_write(type_code: u8, hop_count: u8, b: &mut u8) -> u8
-    ensures answer { λ r. ⌜ r ≡ numberIn (byteSays (byteOf «hop_count» (typeRead «type_code»))) ⌝ }
-    ensures b { λ _. ⌜ now (b .exit) ≡ leftBy asItIs (now (b .entry)) (byteSays (byteOf «hop_count» (typeRead «type_code»))) ⌝ }
+    ensures answer { λ r. ⌜ r ≡ numberIn (byteSays (headerByteBy «hop_count» (typeRead «type_code»))) ⌝ }
+    ensures b { λ _. ⌜ now (b .exit) ≡ leftBy asItIs (now (b .entry)) (byteSays (headerByteBy «hop_count» (typeRead «type_code»))) ⌝ }
 {
     match header_byte(type_code, hop_count) {
         HeaderByte::Refused(n) => n,

@@ -1,7 +1,7 @@
 // Whole frames. A packet goes in as its eighteen numbers (`Flat`), and comes out as sixteen of them and
 // the two signed ones; include/mesh.h has it as one struct.
 ghost use mathlib.Core.Path.{_≡_};
-ghost use Rattle.base.specs.Answers.{answerOf, outOf, numberIn, leftBy, writtenSays, checkedOf};
+ghost use Rattle.base.specs.Answers.{answerOf, outOf, numberIn, leftBy, writtenSays, checkedOf, checkedNumber};
 ghost use Rattle.fips197.specs.Aes.{aes};
 ghost use Rattle.fields.specs.Header.{typeRead};
 ghost use Rattle.bodies.specs.Body.{lent};
@@ -12,7 +12,7 @@ ghost use Rattle.packets.specs.Seal.{meshOpenedSays};
 ghost use Rattle.mic.specs.Mic.{validSays};
 ghost use Rattle.hops.specs.Hops.{hopEdit, leaves};
 ghost use Rattle.flat.specs.Flat.{bit, meshFrom, numbersIn, rssiIn, snrIn};
-ghost use Rattle.mesh_c.specs.Face.{checkedNumber, asItIs, flatBy, meshNumbers, meshRssi, meshSnr, micIn, placeIn, flatFrame, flatBody, flatSigned, flatValid, flatSealed, flatSeal, flatDecrypted, flatWork, flatDecoded, openedNumber, countsLeft, placeLeft, bare, bodyOf, bodyBy, knownId, knownTime, recordIn};
+ghost use Rattle.mesh_c.specs.Face.{asItIs, flatBy, meshNumbers, meshRssi, meshSnr, meshMic, meshPlace, flatFrame, flatBody, flatSigned, flatValid, flatSealed, flatSeal, flatDecrypted, flatWork, flatDecoded, openedNumber, countsLeft, placeLeft, bare, bareOf, bareBy, knownId, knownTime, recordIn};
 use crate::item::counts_of;
 use aes128::Aes128Key;
 use base::Checked;
@@ -115,7 +115,7 @@ fn bare(payload_type: PayloadType, payload: Payload) -> MeshPacket
 }
 
 fn read_body(t: PayloadType, b: &[u8]) -> MeshRead
-    ensures { λ r. ⌜ r ≡ bodyOf t (now (b .entry)) ⌝ }
+    ensures { λ r. ⌜ r ≡ bareOf t (now (b .entry)) ⌝ }
 {
     match t {
         PayloadType::Uplink => match UplinkPayload::from_slice(b) {
@@ -138,7 +138,7 @@ fn read_body(t: PayloadType, b: &[u8]) -> MeshRead
 }
 
 fn read_kind(kind: u8, b: &[u8]) -> MeshRead
-    ensures { λ r. ⌜ r ≡ bodyBy (now (b .entry)) (typeRead kind) ⌝ }
+    ensures { λ r. ⌜ r ≡ bareBy (now (b .entry)) (typeRead kind) ⌝ }
 {
     match PayloadType::from_byte(kind) {
         TypeRead::Refused(n) => MeshRead::Refused(n),
@@ -155,10 +155,10 @@ pub extern "C" fn mesh_read_body(
     rssi: &mut i16,
     snr: &mut i8,
 ) -> u8
-    ensures answer { λ r. ⌜ r ≡ numberIn (meshSays (bodyBy (now (b .entry)) (typeRead kind))) ⌝ }
-    ensures numbers { λ _. ⌜ now (numbers .exit) ≡ leftBy meshNumbers (now (numbers .entry)) (meshSays (bodyBy (now (b .entry)) (typeRead kind))) ⌝ }
-    ensures rssi { λ _. ⌜ now (rssi .exit) ≡ leftBy meshRssi (now (rssi .entry)) (meshSays (bodyBy (now (b .entry)) (typeRead kind))) ⌝ }
-    ensures snr { λ _. ⌜ now (snr .exit) ≡ leftBy meshSnr (now (snr .entry)) (meshSays (bodyBy (now (b .entry)) (typeRead kind))) ⌝ }
+    ensures answer { λ r. ⌜ r ≡ numberIn (meshSays (bareBy (now (b .entry)) (typeRead kind))) ⌝ }
+    ensures numbers { λ _. ⌜ now (numbers .exit) ≡ leftBy meshNumbers (now (numbers .entry)) (meshSays (bareBy (now (b .entry)) (typeRead kind))) ⌝ }
+    ensures rssi { λ _. ⌜ now (rssi .exit) ≡ leftBy meshRssi (now (rssi .entry)) (meshSays (bareBy (now (b .entry)) (typeRead kind))) ⌝ }
+    ensures snr { λ _. ⌜ now (snr .exit) ≡ leftBy meshSnr (now (snr .entry)) (meshSays (bareBy (now (b .entry)) (typeRead kind))) ⌝ }
 {
     put_mesh(read_kind(kind, b), numbers, rssi, snr)
 }
@@ -389,7 +389,7 @@ fn sign_flat<'a>(
 
 fn put_mic(read: MeshRead, mic: &mut u32) -> u8
     ensures answer { λ r. ⌜ r ≡ numberIn (meshSays read) ⌝ }
-    ensures mic { λ _. ⌜ now (mic .exit) ≡ leftBy micIn (now (mic .entry)) (meshSays read) ⌝ }
+    ensures mic { λ _. ⌜ now (mic .exit) ≡ leftBy meshMic (now (mic .entry)) (meshSays read) ⌝ }
 {
     match read {
         MeshRead::Refused(n) => n,
@@ -432,7 +432,7 @@ pub extern "C" fn mesh_sign<'a>(
     made: &mut u32,
 ) -> u8
     ensures answer { λ r. ⌜ r ≡ numberIn (meshSays (flatSigned (aes (now (key .entry))) (lent (now (frame .entry)) (now (work .entry)) (now (kinds .entry)) (now (spans .entry)) (now (ids .entry)) (now (rssis .entry)) (now (snrs .entry))) (flatBy kind «payload_type» «hop_count» «has_mic» mic «relay_id» «uplink_id» dr rssi snr channel frequency «tx_power» delay timestamp body start len))) ⌝ }
-    ensures made { λ _. ⌜ now (made .exit) ≡ leftBy micIn (now (made .entry)) (meshSays (flatSigned (aes (now (key .entry))) (lent (now (frame .entry)) (now (work .entry)) (now (kinds .entry)) (now (spans .entry)) (now (ids .entry)) (now (rssis .entry)) (now (snrs .entry))) (flatBy kind «payload_type» «hop_count» «has_mic» mic «relay_id» «uplink_id» dr rssi snr channel frequency «tx_power» delay timestamp body start len))) ⌝ }
+    ensures made { λ _. ⌜ now (made .exit) ≡ leftBy meshMic (now (made .entry)) (meshSays (flatSigned (aes (now (key .entry))) (lent (now (frame .entry)) (now (work .entry)) (now (kinds .entry)) (now (spans .entry)) (now (ids .entry)) (now (rssis .entry)) (now (snrs .entry))) (flatBy kind «payload_type» «hop_count» «has_mic» mic «relay_id» «uplink_id» dr rssi snr channel frequency «tx_power» delay timestamp body start len))) ⌝ }
 {
     let f = Flat {
         kind,
@@ -582,7 +582,7 @@ pub extern "C" fn mesh_set_hop_count(key: &[u8; 16], frame: &mut [u8], hop_count
 
 fn put_place(read: MeshRead, place: &mut [u64; 3]) -> u8
     ensures answer { λ r. ⌜ r ≡ numberIn (meshSays read) ⌝ }
-    ensures place { λ _. ⌜ now (place .exit) ≡ leftBy placeIn (now (place .entry)) (meshSays read) ⌝ }
+    ensures place { λ _. ⌜ now (place .exit) ≡ leftBy meshPlace (now (place .entry)) (meshSays read) ⌝ }
 {
     match read {
         MeshRead::Refused(n) => n,
@@ -648,7 +648,7 @@ pub extern "C" fn mesh_seal<'a>(
 ) -> u8
     ensures answer { λ r. ⌜ r ≡ numberIn (meshSays (flatSealed (now (key .entry)) (lent (now (frame .entry)) (now (work .entry)) (now (kinds .entry)) (now (spans .entry)) (now (ids .entry)) (now (rssis .entry)) (now (snrs .entry))) (flatBy kind «payload_type» «hop_count» «has_mic» mic «relay_id» «uplink_id» dr rssi snr channel frequency «tx_power» delay timestamp body start len) (now (out .entry)))) ⌝ }
     ensures out { λ _. ⌜ now (out .exit) ≡ outOf (flatSeal (now (key .entry)) (lent (now (frame .entry)) (now (work .entry)) (now (kinds .entry)) (now (spans .entry)) (now (ids .entry)) (now (rssis .entry)) (now (snrs .entry))) (flatBy kind «payload_type» «hop_count» «has_mic» mic «relay_id» «uplink_id» dr rssi snr channel frequency «tx_power» delay timestamp body start len)) (now (out .entry)) ⌝ }
-    ensures place { λ _. ⌜ now (place .exit) ≡ leftBy placeIn (now (place .entry)) (meshSays (flatSealed (now (key .entry)) (lent (now (frame .entry)) (now (work .entry)) (now (kinds .entry)) (now (spans .entry)) (now (ids .entry)) (now (rssis .entry)) (now (snrs .entry))) (flatBy kind «payload_type» «hop_count» «has_mic» mic «relay_id» «uplink_id» dr rssi snr channel frequency «tx_power» delay timestamp body start len) (now (out .entry)))) ⌝ }
+    ensures place { λ _. ⌜ now (place .exit) ≡ leftBy meshPlace (now (place .entry)) (meshSays (flatSealed (now (key .entry)) (lent (now (frame .entry)) (now (work .entry)) (now (kinds .entry)) (now (spans .entry)) (now (ids .entry)) (now (rssis .entry)) (now (snrs .entry))) (flatBy kind «payload_type» «hop_count» «has_mic» mic «relay_id» «uplink_id» dr rssi snr channel frequency «tx_power» delay timestamp body start len) (now (out .entry)))) ⌝ }
 {
     let f = Flat {
         kind,

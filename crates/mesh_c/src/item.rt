@@ -4,7 +4,7 @@ ghost use Rattle.base.specs.Answers.{answerOf, outOf, numberIn, leftBy, written
 ghost use Rattle.heartbeats.specs.Heartbeat.{beatSays, beatOf, pathSays, entryRead, beatWire};
 ghost use Rattle.composed.specs.Composed.{paths};
 ghost use Rattle.paths.specs.Paths.{pathsIn};
-ghost use Rattle.items.specs.Items.{countsOf, countsSay, decodeOf, itemSays};
+ghost use Rattle.items.specs.Items.{countsOf, countsSay, bareItemAt, itemSays};
 ghost use Rattle.seal.specs.Stream.{sealedOf};
 ghost use Rattle.mesh_c.specs.Face.{asItIs, countList, kindNumber, itemList, foundList, entriesIn, entryRelay, entryRssi, entrySnr};
 use aes128::Aes128Key;
@@ -91,7 +91,7 @@ pub extern "C" fn mesh_count(is_event: bool, payload: &[u8], counts: &mut [u64; 
 }
 
 fn decoded(is_event: bool, payload: &[u8], at: usize) -> ItemRead
-    ensures { λ r. ⌜ r ≡ decodeOf «is_event» (now (payload .entry)) at ⌝ }
+    ensures { λ r. ⌜ r ≡ bareItemAt «is_event» (now (payload .entry)) at ⌝ }
 {
     if is_event {
         return Event::decode(payload, at);
@@ -128,8 +128,8 @@ fn item_numbers(what: u64, item: Item, next: usize) -> [u64; 6]
 // heartbeat, 2 any other), its tag, place and length of its value, and the place behind it.
 #[no_mangle]
 pub extern "C" fn mesh_item(is_event: bool, payload: &[u8], at: u64, item: &mut [u64; 6]) -> u8
-    ensures answer { λ r. ⌜ r ≡ numberIn (itemSays (decodeOf «is_event» (now (payload .entry)) at)) ⌝ }
-    ensures item { λ _. ⌜ now (item .exit) ≡ leftBy foundList (now (item .entry)) (itemSays (decodeOf «is_event» (now (payload .entry)) at)) ⌝ }
+    ensures answer { λ r. ⌜ r ≡ numberIn (itemSays (bareItemAt «is_event» (now (payload .entry)) at)) ⌝ }
+    ensures item { λ _. ⌜ now (item .exit) ≡ leftBy foundList (now (item .entry)) (itemSays (bareItemAt «is_event» (now (payload .entry)) at)) ⌝ }
 {
     match decoded(is_event, payload, at as usize) {
         ItemRead::Refused(n) => n,

@@ -1,11 +1,11 @@
 // The duplicate cache, in 195 words that the caller holds.
 ghost use mathlib.Core.Path.{_≡_};
-ghost use Rattle.base.specs.Answers.{numberIn, leftBy};
+ghost use Rattle.base.specs.Answers.{numberIn, leftBy, checkedNumber};
 ghost use Rattle.fields.specs.Header.{typeRead};
 ghost use Rattle.flat.specs.Flat.{bit};
 ghost use Rattle.cache.specs.Cache.{addSays};
 ghost use Rattle.packed.specs.Packed.{clearAnswer, clearWords};
-ghost use Rattle.mesh_c.specs.Face.{checkedNumber, cacheAnswer, cacheWords};
+ghost use Rattle.mesh_c.specs.Face.{cacheAnswer, cacheWords};
 use base::Checked;
 use cache::CacheAnswer;
 use cache::PayloadCache;

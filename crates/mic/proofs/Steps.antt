@@ -21,11 +21,10 @@ use Rattle.cmac.specs.Cmac.{tag}
 use Rattle.cmac.specs.State.{begun, absorb1, finished}
 use Rattle.cmac.specs.declared.Mac.{Mac}
 use Rattle.cmac.proofs.Laws.{finish-tag, tag-same}
-use Rattle.payloads.specs.Write.{prefixed}
+use Rattle.payloads.specs.Write.{prefixed, headedBy}
 use Rattle.bodies.specs.Body.{Lent, bodyRefusal, bodyBytes, bodyWire}
 use Rattle.bodies.specs.declared.body.Body.{Body}
-use Rattle.fields.proofs.Laws.Meta.{is-refused, not-refused}
-use Rattle.events.specs.Write.{headedBy}
+use Rattle.base.proofs.Answers.{is-refused, not-refused}
 use Rattle.fields.specs.Header.{headerByte}
 use Rattle.fields.specs.declared.header.HeaderByte.{HeaderByte}
 use Rattle.fields.specs.declared.header.HeaderByte.the-variants.{Byte, Refused as NoByte}

@@ -7,7 +7,7 @@ use mathlib.Core.List.{List}
 use lib.Dec.{ltb, eqb}
 use lib.ListN.{length, take}
 use Rattle.base.specs.Pick.{pick}
-use Rattle.base.specs.Numbers.{frameLong, micMissing}
+use Rattle.base.specs.Numbers.{frameLong, micMissing, messageMost}
 use Rattle.base.specs.Answers.{Answer, value, number, Frame, bytes, refused}
 use Rattle.wire.specs.Number.{beOf}
 use Rattle.cmac.specs.Cmac.{tag}
@@ -25,7 +25,7 @@ micOf E w = beOf (take 4 (tag E w))
 -- header byte and body, of which four bytes more make a frame
 unfoldable pub fitting : Frame → Frame
 fitting (refused n) = refused n
-fitting (bytes w) = pick (ltb 8188 (length w)) (refused frameLong) (bytes w)
+fitting (bytes w) = pick (ltb messageMost (length w)) (refused frameLong) (bytes w)
 
 -- what is signed, or the first refusal
 unfoldable pub signedOf : Lent → MeshPacket → Frame

@@ -6,8 +6,7 @@ ghost use Rattle.base.specs.Answers.{bytes};
 ghost use Rattle.wire.specs.Number.{beOf};
 ghost use Rattle.fips197.specs.Aes.{aes};
 ghost use Rattle.bodies.specs.Body.{lent, bodyWire};
-ghost use Rattle.payloads.specs.Write.{prefixed, uplinkWire, downlinkWire};
-ghost use Rattle.events.specs.Write.{headedBy};
+ghost use Rattle.payloads.specs.Write.{prefixed, uplinkWire, downlinkWire, headedBy};
 ghost use Rattle.mic.specs.Mic.{fitting, signedOf, setMic, validateMic};
 ghost use Rattle.mic.specs.Made.{madeOf};
 use absorbed::absorb_body;
@@ -54,7 +53,7 @@ fn sign_run(key: Aes128Key, first: u8, head: &[u8], payload: &[u8]) -> Made
     if Limit::FRAME < payload.len() {
         return Made::Refused(Refusal::FRAME_LONG);
     }
-    if Limit::FRAME - 5 < head.len() + payload.len() {
+    if Limit::BODY < head.len() + payload.len() {
         return Made::Refused(Refusal::FRAME_LONG);
     }
     let e = prepare(key);
@@ -132,7 +131,7 @@ fn sign_body<'a>(
     if Limit::FRAME < n {
         return Made::Refused(Refusal::FRAME_LONG);
     }
-    if Limit::FRAME - 5 < head.len() + n {
+    if Limit::BODY < head.len() + n {
         return Made::Refused(Refusal::FRAME_LONG);
     }
     let e = prepare(key);

@@ -40,7 +40,7 @@ use Rattle.packets.specs.declared.any.Packet.{Packet}
 use Rattle.packets.specs.declared.any.Packet.the-variants.{Mesh as AMesh, Lora}
 use Rattle.packets.specs.declared.any.PacketRead.{PacketRead}
 use Rattle.packets.specs.declared.any.PacketRead.the-variants.{Packet as PacketIs, Refused as NoPacket}
-use Rattle.flat.specs.Flat.{placeOf, ofPayload, flatOf, numbersOf, numbersIn, rssiIn, snrIn}
+use Rattle.flat.specs.Flat.{placeOf, flatOfPayload, flatOf, numbersOf, numbersIn, rssiIn, snrIn}
 use Rattle.flat.specs.declared.Flat.{Flat}
 use Rattle.trips.proofs.Which.{body-length}
 use Rattle.numbers.specs.Numbers.{upFlat, downFlat, stampedFlat, loraFlat, hopsIn, micIn, upIn, downIn, stampedIn}
@@ -280,19 +280,19 @@ module _ (s : List ℕ) (e : length s ≡ 0 → ⊥) (l : length s ≤ 8192) (m 
   module _ (xs : List ℕ) (r z : ℤ) (ys : List ℕ) (r' z' : ℤ) where
     pub up-left : kind ≡ 0 → 14 ≤ length s → ys ≡ numbersOf (upIn s) → r' ≡ upIn s .rssi → z' ≡ upIn s .snr
         → Left (packetOf s) xs r z 0 ys r' z'
-    unfolding flatOf ofPayload
+    unfolding flatOf flatOfPayload
     up-left k n = stored (packetOf s) _ (upIn s) xs r z ys r' z'
         (carried s e l m h Uplink k _ (up-body s (bodyIn s) behind l at n)) refl
 
     pub down-left : kind ≡ 1 → 15 ≤ length s → ys ≡ numbersOf (downIn s) → r' ≡ pos 0 → z' ≡ pos 0
         → Left (packetOf s) xs r z 0 ys r' z'
-    unfolding flatOf ofPayload
+    unfolding flatOf flatOfPayload
     down-left k n = stored (packetOf s) _ (downIn s) xs r z ys r' z'
         (carried s e l m h Downlink k _ (down-body s (bodyIn s) behind l at n)) refl
 
     event-left : kind ≡ 2 → 13 ≤ length s → ys ≡ numbersOf (stampedIn kind s) → r' ≡ pos 0 → z' ≡ pos 0
         → Left (packetOf s) xs r z 0 ys r' z'
-    unfolding flatOf ofPayload
+    unfolding flatOf flatOfPayload
     event-left k n a =
         stored (packetOf s) _ (stampedIn 2 s) xs r z ys r' z'
         (carried s e l m h Event k _ (event-body s (bodyIn s) behind l at n)) refl
@@ -300,7 +300,7 @@ module _ (s : List ℕ) (e : length s ≡ 0 → ⊥) (l : length s ≤ 8192) (m 
 
     command-left : kind ≡ 3 → 13 ≤ length s → ys ≡ numbersOf (stampedIn kind s) → r' ≡ pos 0 → z' ≡ pos 0
         → Left (packetOf s) xs r z 0 ys r' z'
-    unfolding flatOf ofPayload
+    unfolding flatOf flatOfPayload
     command-left k n a =
         stored (packetOf s) _ (stampedIn 3 s) xs r z ys r' z'
         (carried s e l m h Command k _ (command-body s (bodyIn s) behind l at n)) refl

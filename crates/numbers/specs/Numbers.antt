@@ -9,25 +9,25 @@ use Rattle.fields.specs.declared.meta.UplinkMetadata.{UplinkMetadata}
 use Rattle.fields.specs.declared.meta.DownlinkMetadata.{DownlinkMetadata}
 use Rattle.bodies.specs.Body.{bodyOf}
 use Rattle.payloads.specs.Read.{fourAt}
-use Rattle.flat.specs.Flat.{placeOf, headOf, ofUplink, ofDownlink, ofStamped, ofLora}
+use Rattle.flat.specs.Flat.{placeOf, headOf, flatOfUplink, flatOfDownlink, flatOfStamped, flatOfLora}
 use Rattle.flat.specs.declared.Flat.{Flat}
 
 -- ---- by the values: hop count, MIC, and so on
 
 abbrev pub upFlat : ℕ → ℕ → UplinkMetadata → ℕ → ℕ → Flat
 upFlat hops mic m relay len =
-    ofUplink (headOf (record { «payload_type» = Uplink; «hop_count» = hops }) true mic)
+    flatOfUplink (headOf (record { «payload_type» = Uplink; «hop_count» = hops }) true mic)
     (record { metadata = m; «relay_id» = relay; «phy_payload» = record { start = 10; len = len } })
 
 abbrev pub downFlat : ℕ → ℕ → DownlinkMetadata → ℕ → ℕ → Flat
 downFlat hops mic m relay len =
-    ofDownlink (headOf (record { «payload_type» = Downlink; «hop_count» = hops }) true mic)
+    flatOfDownlink (headOf (record { «payload_type» = Downlink; «hop_count» = hops }) true mic)
     (record { metadata = m; «relay_id» = relay; «phy_payload» = record { start = 11; len = len } })
 
 -- an event or a command, by its code
 abbrev pub stampedFlat : ℕ → ℕ → ℕ → ℕ → ℕ → ℕ → Flat
 stampedFlat kind hops mic time relay len =
-    ofStamped kind (record { «payload_type» = kind; «hop_count» = hops; «has_mic» = true; mic = mic }) time relay (bodyOf 9 len)
+    flatOfStamped kind (record { «payload_type» = kind; «hop_count» = hops; «has_mic» = true; mic = mic }) time relay (bodyOf 9 len)
 
 abbrev pub sealedCode : ℕ → ℕ
 sealedCode len = placeOf (bodyOf 9 len) .body
@@ -36,7 +36,7 @@ abbrev pub sealedStart : ℕ → ℕ
 sealedStart len = placeOf (bodyOf 9 len) .start
 
 abbrev pub loraFlat : ℕ → Flat
-loraFlat len = ofLora (record { start = 0; len = len })
+loraFlat len = flatOfLora (record { start = 0; len = len })
 
 -- ---- by the frame
 

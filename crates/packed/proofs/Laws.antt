@@ -12,26 +12,15 @@ use lib.Dec.{ltb, eqb}
 use lib.ListN.{length, take, getD, set, replicate, length-set, getD-replicate}
 use lib.Seq.{getD-set-same, getD-set-other}
 use Rattle.base.proofs.Lists.{_◂_}
-use Rattle.fields.specs.declared.header.PayloadType.the-variants.{Uplink}
 use Rattle.cache.specs.declared.record.PayloadCache.{PayloadCache}
 use Rattle.cache.specs.declared.ring.Cache.{Cache}
 use Rattle.cache.specs.Cache as ring
-use Rattle.cache.specs.Cache.{rec, packOf, sameRecord, has, emptyRing, newOf, addedOf, pushedOf, ringAnswers, answers}
+use Rattle.cache.specs.Cache.{packOf, sameRecord, has, emptyRing, newOf, addedOf, pushedOf, ringAnswers, answers}
 use Rattle.cache.proofs.Steps.{has-more}
 use Rattle.cache.proofs.Laws.{pack-same, adds-list}
-use Rattle.packed.specs.Packed.{sizeIn, headAt, timeAt, relayAt, clearedWords, isAt, isBelow, storedAt, pushedWords, addAnswer, addWords, packedAnswers}
+use Rattle.packed.specs.Packed.{sizeIn, headAt, timeAt, relayAt, clearedWords, isAt, isBelow, storedAt, pushedWords, addAnswer, addWords, packedAnswers, noRecord, SmallId, SmallIds}
 
 -- ---- one place
-
-abbrev noRecord : PayloadCache
-noRecord = rec Uplink 0 0 0
-
--- an uplink id is of 16 bits, as the code's are; the other fields are words as they are
-abbrev pub Fits : PayloadCache → Type 0
-Fits r = r .«uplink_id» < 65536
-
-abbrev pub AllFit : List PayloadCache → Type 0
-AllFit rs = (i : ℕ) → Fits (getD rs i noRecord)
 
 -- the words at place i
 abbrev slotOf : List ℕ → ℕ → List ℕ
@@ -54,7 +43,7 @@ at-is w p i e =
     eqb-true _ _ (q .1) ◂ eqb-true _ _ (t .1) ◂ eqb-true _ _ (t .0) ◂ refl
 
 -- a place that holds s holds r where the two are the same
-at-same : (w : List ℕ) (i : ℕ) (s r : PayloadCache) → Fits s → Fits r → slotOf w i ≡ packOf s → isAt w (packOf r) i ≡ sameRecord s r
+at-same : (w : List ℕ) (i : ℕ) (s r : PayloadCache) → SmallId s → SmallId r → slotOf w i ≡ packOf s → isAt w (packOf r) i ≡ sameRecord s r
 unfolding packOf
 at-same w i s r fs fr e = both-ways (isAt w (packOf r) i) (sameRecord s r) to from
   where
@@ -75,9 +64,9 @@ pub record Holds (w : List ℕ) (c : Cache) : Type 0 where
   pub len : getD w 1 0 ≡ c .len
   pub next : getD w 2 0 ≡ c .next
   pub slot : (i : ℕ) → i < 64 → slotOf w i ≡ packOf (getD (c .slots) i noRecord)
-  pub fit : (i : ℕ) → i < 64 → Fits (getD (c .slots) i noRecord)
+  pub fit : (i : ℕ) → i < 64 → SmallId (getD (c .slots) i noRecord)
 
-below-has : (w : List ℕ) (c : Cache) → Holds w c → (r : PayloadCache) → Fits r → (n : ℕ) → n ≤ 64 → isBelow w (packOf r) n ≡ has (take n (c .slots)) r
+below-has : (w : List ℕ) (c : Cache) → Holds w c → (r : PayloadCache) → SmallId r → (n : ℕ) → n ≤ 64 → isBelow w (packOf r) n ≡ has (take n (c .slots)) r
 unfolding isBelow has
 below-has w c g r f zero h = refl
 below-has w c g r f (suc n) h =
@@ -169,11 +158,11 @@ module _ (w : List ℕ) (long : length w ≡ 195) (p : List ℕ) (k l m : ℕ) (
 
 -- ---- adding
 
-module _ (w : List ℕ) (c : Cache) (g : Holds w c) (r : PayloadCache) (f : Fits r) (k l m : ℕ) (small : k < 64) where
+module _ (w : List ℕ) (c : Cache) (g : Holds w c) (r : PayloadCache) (f : SmallId r) (k l m : ℕ) (small : k < 64) where
   abbrev after : List ℕ
   after = stored w (g .long) (packOf r) k l m small
 
-  slot-at : (i : ℕ) → i < 64 → (b : Bool) → eqb i k ≡ b → (slotOf after i ≡ packOf (getD (set (c .slots) k r) i noRecord)) × Fits (getD (set (c .slots) k r) i noRecord)
+  slot-at : (i : ℕ) → i < 64 → (b : Bool) → eqb i k ≡ b → (slotOf after i ≡ packOf (getD (set (c .slots) k r) i noRecord)) × SmallId (getD (set (c .slots) k r) i noRecord)
   unfolding packOf
   slot-at i h true e =
       let t : i ≡ k = eqb-true i k e in
@@ -195,36 +184,36 @@ module _ (w : List ℕ) (c : Cache) (g : Holds w c) (r : PayloadCache) (f : Fits
         fit = λ i h. slot-at i h (eqb i k) refl .1;
       }
 
-pushed-holds : (w : List ℕ) (c : Cache) → Holds w c → (r : PayloadCache) → Fits r → 1 ≤ c .size → c .size ≤ 64 → Holds (pushedWords w (packOf r)) (pushedOf c r)
+pushed-holds : (w : List ℕ) (c : Cache) → Holds w c → (r : PayloadCache) → SmallId r → 1 ≤ c .size → c .size ≤ 64 → Holds (pushedWords w (packOf r)) (pushedOf c r)
 unfolding pushedWords pushedOf
 pushed-holds w c g r f some most =
     let h : c .next % c .size < c .size = mod-lt (c .next) some in
-    rw (g .len, g .next, g .size) (after-holds w c g r f (ring.placeIn c) (min (ring.countIn c + 1) (c .size)) ((ring.placeIn c + 1) % c .size) (omega arith))
+    rw (g .len, g .next, g .size) (after-holds w c g r f (ring.ringPlace c) (min (ring.ringCount c + 1) (c .size)) ((ring.ringPlace c + 1) % c .size) (omega arith))
 
 -- what adding r does to words that hold a ring: they answer as the ring, and hold what it becomes
 pub record Follows (w : List ℕ) (c : Cache) (r : PayloadCache) : Type 0 where
   pub answer : addAnswer w r ≡ addedOf c r .answer
   pub holds : Holds (addWords w r) (addedOf c r .cache)
 
-pub follows : (w : List ℕ) (c : Cache) → Holds w c → (r : PayloadCache) → Fits r → Follows w c r
+pub follows : (w : List ℕ) (c : Cache) → Holds w c → (r : PayloadCache) → SmallId r → Follows w c r
 unfolding addAnswer addWords addedOf
-follows w c g r f = go (ltb (c .size) 1) (ltb 64 (c .size)) (has (take (ring.countIn c) (c .slots)) r) refl refl refl
+follows w c g r f = go (ltb (c .size) 1) (ltb 64 (c .size)) (has (take (ring.ringCount c) (c .slots)) r) refl refl refl
   where
-    go : (a b d : Bool) → ltb (c .size) 1 ≡ a → ltb 64 (c .size) ≡ b → has (take (ring.countIn c) (c .slots)) r ≡ d → Follows w c r
+    go : (a b d : Bool) → ltb (c .size) 1 ≡ a → ltb 64 (c .size) ≡ b → has (take (ring.ringCount c) (c .slots)) r ≡ d → Follows w c r
     go true b d ea eb ed = record { answer = rw (g .size, ea) refl; holds = rw (g .size, ea) g }
     go false true d ea eb ed = record { answer = rw (g .size, ea, eb) refl; holds = rw (g .size, ea, eb) g }
     go false false d ea eb ed =
         let some : 1 ≤ c .size = ltb-false (c .size) 1 ea in
         let most : c .size ≤ 64 = ltb-false 64 (c .size) eb in
         let n : min (c .len) (c .size) ≤ c .size = min-le-right (c .len) (c .size) in
-        let below : isBelow w (packOf r) (ring.countIn c) ≡ d = below-has w c g r f (ring.countIn c) (omega arith) ∙ ed in
+        let below : isBelow w (packOf r) (ring.ringCount c) ≡ d = below-has w c g r f (ring.ringCount c) (omega arith) ∙ ed in
         by d ed below (pushed-holds w c g r f some most)
       where
-        by : (d : Bool) → has (take (ring.countIn c) (c .slots)) r ≡ d → isBelow w (packOf r) (ring.countIn c) ≡ d → Holds (pushedWords w (packOf r)) (pushedOf c r) → Follows w c r
+        by : (d : Bool) → has (take (ring.ringCount c) (c .slots)) r ≡ d → isBelow w (packOf r) (ring.ringCount c) ≡ d → Holds (pushedWords w (packOf r)) (pushedOf c r) → Follows w c r
         by true ed below p = record { answer = rw (g .size, g .len, ea, eb, ed, below) refl; holds = rw (g .size, g .len, ea, eb, ed, below) g }
         by false ed below p = record { answer = rw (g .size, g .len, ea, eb, ed, below) refl; holds = rw (g .size, g .len, ea, eb, ed, below) p }
 
-all-follow : (w : List ℕ) (c : Cache) → Holds w c → (rs : List PayloadCache) → AllFit rs → packedAnswers w rs ≡ ringAnswers c rs
+all-follow : (w : List ℕ) (c : Cache) → Holds w c → (rs : List PayloadCache) → SmallIds rs → packedAnswers w rs ≡ ringAnswers c rs
 unfolding packedAnswers ringAnswers
 all-follow w c g [] f = refl
 all-follow w c g (r ∷ rs) f =
@@ -232,5 +221,5 @@ all-follow w c g (r ∷ rs) f =
     s .answer ◂ all-follow (addWords w r) (addedOf c r .cache) (s .holds) rs (λ i. f (suc i))
 
 -- whatever is added to a cleared cache, it answers as the list of the last n records does
-pub packed-adds-list : (n : ℕ) → 1 ≤ n → n ≤ 64 → (rs : List PayloadCache) → AllFit rs → packedAnswers (clearedWords n) rs ≡ answers n [] rs
+pub packed-adds-list : (n : ℕ) → 1 ≤ n → n ≤ 64 → (rs : List PayloadCache) → SmallIds rs → packedAnswers (clearedWords n) rs ≡ answers n [] rs
 packed-adds-list n h k rs f = all-follow (clearedWords n) (newOf n .cache) (cleared-holds n h k) rs f ∙ adds-list n h k rs

@@ -2,7 +2,7 @@
 -- one kind lie one after the other. A record's words are `packOf`'s of crate cache. proofs/Laws.antt shows that it answers as the list of
 -- the last records does. Assumes nothing.
 use mathlib.Core.Path.{_≡_}
-use Prim.Native.Nat.{ℕ, zero, suc, _+_, _%_, _≤_, min}
+use Prim.Native.Nat.{ℕ, zero, suc, _+_, _%_, _≤_, _<_, min}
 use mathlib.Core.Bool.{Bool, false, _&&_, _||_}
 use mathlib.Core.List.{List, [], _∷_}
 use lib.Dec.{ltb, eqb}
@@ -14,7 +14,8 @@ use Rattle.base.specs.declared.Checked.the-variants.{Accepted, Refused as NotMa
 use Rattle.cache.specs.declared.record.PayloadCache.{PayloadCache}
 use Rattle.cache.specs.declared.ring.CacheAnswer.{CacheAnswer}
 use Rattle.cache.specs.declared.ring.CacheAnswer.the-variants.{New, Seen, Refused}
-use Rattle.cache.specs.Cache.{packOf}
+use Rattle.cache.specs.Cache.{rec, packOf}
+use Rattle.fields.specs.declared.header.PayloadType.the-variants.{Uplink}
 
 -- ---- where everything lies
 
@@ -91,3 +92,14 @@ addWords w r =
 unfoldable pub packedAnswers : List ℕ → List PayloadCache → List CacheAnswer
 packedAnswers w [] = []
 packedAnswers w (r ∷ rs) = addAnswer w r ∷ packedAnswers (addWords w r) rs
+
+-- ---- records that three words hold: an uplink id is of 16 bits, as the code's are; the other fields are words as they are
+
+abbrev pub noRecord : PayloadCache
+noRecord = rec Uplink 0 0 0
+
+abbrev pub SmallId : PayloadCache → Type 0
+SmallId r = r .«uplink_id» < 65536
+
+abbrev pub SmallIds : List PayloadCache → Type 0
+SmallIds rs = (i : ℕ) → SmallId (getD rs i noRecord)

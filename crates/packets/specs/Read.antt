@@ -5,7 +5,7 @@ use mathlib.Core.List.{List}
 use lib.Dec.{ltb, eqb}
 use lib.ListN.{length, getD, take, drop}
 use Rattle.base.specs.Pick.{pick}
-use Rattle.base.specs.Numbers.{frameEmpty, frameShort, frameLong}
+use Rattle.base.specs.Numbers.{frameEmpty, frameShort, frameLong, frameMost}
 use Rattle.base.specs.Answers.{Answer, value, number}
 use Rattle.fields.specs.Header.{headerOf}
 use Rattle.fields.specs.declared.header.MHDR.{MHDR}
@@ -72,7 +72,7 @@ withHeader s (Header h) = withPayload s h (payloadAt (h .«payload_type») (body
 unfoldable pub meshOf : List ℕ → MeshRead
 meshOf s =
     pick (eqb (length s) 0) (Refused frameEmpty)
-    (pick (ltb 8192 (length s)) (Refused frameLong)
+    (pick (ltb frameMost (length s)) (Refused frameLong)
     (pick (ltb (length s) 5) (Refused frameShort) (withHeader s (headerOf (getD s 0 0)))))
 
 -- any other top bits than 111 are a LoRa frame
@@ -83,7 +83,7 @@ ofMesh (Refused n) = NoPacket n
 unfoldable pub packetOf : List ℕ → PacketRead
 packetOf s =
     pick (eqb (length s) 0) (NoPacket frameEmpty)
-    (pick (ltb 8192 (length s)) (NoPacket frameLong)
+    (pick (ltb frameMost (length s)) (NoPacket frameLong)
     (pick (eqb (getD s 0 0 / 32) 7) (ofMesh (meshOf s)) (PacketIs (Lora (record { start = 0; len = length s })))))
 
 -- document 01's number, or the value

@@ -28,8 +28,8 @@ abbrev pub carrying : MeshPacket → Payload → MeshPacket
 carrying p q = record { mhdr = p .mhdr; payload = q; «has_mic» = p .«has_mic»; mic = p .mic }
 
 -- an uplink or a downlink: opening it reports nothing
-abbrev pub asItIs : MeshPacket → MeshOpened
-asItIs p = Now p nothing
+abbrev pub nothingToOpen : MeshPacket → MeshOpened
+nothingToOpen p = Now p nothing
 
 -- ---- sealing
 
@@ -67,8 +67,8 @@ ofCommandOpened p CommandOpen = AlreadyOpen
 ofCommandOpened p (CommandNot n) = NotOpened n
 
 unfoldable pub meshDecrypted : List ℕ → MeshPacket → Payload → List ℕ → List ℕ → MeshOpened
-meshDecrypted key p (Uplink u) f w = asItIs p
-meshDecrypted key p (Downlink u) f w = asItIs p
+meshDecrypted key p (Uplink u) f w = nothingToOpen p
+meshDecrypted key p (Downlink u) f w = nothingToOpen p
 meshDecrypted key p (Event u) f w = ofEventOpened p (eventOpened u (decryptOf key false (u .«relay_id») (u .timestamp) (u .events) f w))
 meshDecrypted key p (Command u) f w = ofCommandOpened p (commandOpened u (decryptOf key true (u .«relay_id») (u .timestamp) (u .commands) f w))
 
@@ -80,8 +80,8 @@ meshWork key (Event u) f w = workAfter key false (u .«relay_id») (u .timestamp
 meshWork key (Command u) f w = workAfter key true (u .«relay_id») (u .timestamp) (u .commands) f w
 
 unfoldable pub meshDecoded : MeshPacket → Payload → List ℕ → List ℕ → MeshOpened
-meshDecoded p (Uplink u) f w = asItIs p
-meshDecoded p (Downlink u) f w = asItIs p
+meshDecoded p (Uplink u) f w = nothingToOpen p
+meshDecoded p (Downlink u) f w = nothingToOpen p
 meshDecoded p (Event u) f w = ofEventOpened p (eventOpened u (decodeOf true (u .events) f w))
 meshDecoded p (Command u) f w = ofCommandOpened p (commandOpened u (decodeOf false (u .commands) f w))
 

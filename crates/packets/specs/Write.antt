@@ -5,10 +5,9 @@ use mathlib.Core.List.{List}
 use lib.Dec.{ltb}
 use lib.ListN.{length}
 use Rattle.base.specs.Pick.{pick}
-use Rattle.base.specs.Numbers.{frameLong}
-use Rattle.base.specs.Answers.{Frame, bytes, refused}
+use Rattle.base.specs.Numbers.{frameLong, frameMost}
+use Rattle.base.specs.Answers.{Frame, bytes, refused, unlessRefused}
 use Rattle.fields.specs.Header.{headerByte}
-use Rattle.fields.specs.Meta.{unlessRefused}
 use Rattle.fields.specs.declared.header.HeaderByte.{HeaderByte}
 use Rattle.fields.specs.declared.header.HeaderByte.the-variants.{Byte, Refused as NoByte}
 use Rattle.wire.specs.Run.{runRefusal, runBytes}
@@ -42,7 +41,7 @@ meshFrame l p = withMic (p .«has_mic») (p .mic) (messageOf l p)
 
 -- a LoRa frame is its bytes; of no bytes, no bytes
 unfoldable pub loraFrame : List ℕ → Run → Frame
-loraFrame s r = unlessRefused (runRefusal (length s) r) (pick (ltb 8192 (r .len)) (refused frameLong) (bytes (runBytes s r)))
+loraFrame s r = unlessRefused (runRefusal (length s) r) (pick (ltb frameMost (r .len)) (refused frameLong) (bytes (runBytes s r)))
 
 unfoldable pub packetFrame : Lent → Packet → Frame
 packetFrame l (Mesh p) = meshFrame l p

@@ -4,7 +4,7 @@ ghost use mathlib.Core.Path.{_≡_};
 ghost use Rattle.base.specs.Answers.{answerOf, outOf};
 ghost use Rattle.packets.specs.Read.{payloadAt, meshOf};
 ghost use Rattle.packets.specs.Write.{meshFrame};
-ghost use Rattle.packets.specs.Seal.{carrying, asItIs, sealOf, meshSealed, ofEventOpened, ofCommandOpened, meshDecrypted, meshWork, meshDecoded};
+ghost use Rattle.packets.specs.Seal.{carrying, nothingToOpen, sealOf, meshSealed, ofEventOpened, ofCommandOpened, meshDecrypted, meshWork, meshDecoded};
 ghost use Rattle.bodies.specs.Body.{lent};
 use aes128::Aes128Key;
 use base::Limit;
@@ -268,7 +268,7 @@ impl MeshPacket {
     }
 
     fn as_it_is(self) -> MeshOpened
-        ensures { λ r. ⌜ r ≡ asItIs self ⌝ }
+        ensures { λ r. ⌜ r ≡ nothingToOpen self ⌝ }
     {
         MeshOpened::Opened {
             packet: self,

@@ -19,8 +19,9 @@ use Rattle.wire.proofs.Laws.Lay.{put-length, put-front}
 use Rattle.fields.specs.Path.{pathBytes, badEntry, sixOf}
 use Rattle.fields.specs.declared.path.PathBytes.{PathBytes}
 use Rattle.fields.specs.declared.path.RelayPath.{RelayPath}
-use Rattle.heartbeats.specs.Heartbeat.{beatWire}
-use Rattle.heartbeats.proofs.Steps.{noPath, joined-length, packed, packed-none, packed-more}
+use Rattle.heartbeats.specs.Heartbeat.{beatWire, noPath}
+use Rattle.fields.proofs.Laws.Path.{joined-length}
+use Rattle.heartbeats.proofs.Steps.{packed, packed-none, packed-more}
 use Rattle.composed.specs.Composed.{Lists, pathCount, pathAt}
 use Rattle.composed.proofs.Runs.{told-bad, told-some, told-good, told-six}
 use Rattle.paths.specs.Paths.{pathsIn}

@@ -14,15 +14,15 @@ use Rattle.base.specs.Lists.{Bytes, from}
 use Rattle.base.specs.Answers.{Frame, bytes, refused}
 use Rattle.wire.specs.Number.{beOf, beBytes}
 use Rattle.wire.proofs.Laws.Number.{be-length, of-bytes, bytes-of}
-use Rattle.fields.specs.Freq.{hertzOf}
 use Rattle.fields.specs.Signal.{rssiByte, snrByte}
 use Rattle.fields.specs.Meta.{idBytes, idRefusal, afterRssi, upOf, upWire, downOf, downWire}
 use Rattle.fields.specs.declared.meta.UplinkMetadata.{UplinkMetadata}
 use Rattle.fields.specs.declared.meta.DownlinkMetadata.{DownlinkMetadata}
 use Rattle.fields.proofs.Laws.Bytes.{none, _▸_, small}
-use Rattle.fields.proofs.Laws.Meta.{signals, up-back, up-again, down-back, down-again, unless-bytes}
+use Rattle.base.proofs.Answers.{unless-bytes}
+use Rattle.fields.proofs.Laws.Meta.{signals, up-back, up-again, down-back, down-again}
 use Rattle.wire.specs.Run.{runRefusal, runBytes}
-use Rattle.payloads.specs.Read.{fourAt, uplinkAt, downlinkAt}
+use Rattle.payloads.specs.Read.{fourAt, uplinkAt, downlinkAt, heard}
 use Rattle.payloads.specs.Write.{followed, withRun, uplinkHead, downlinkHead}
 use Rattle.wire.specs.declared.run.Run.{Run}
 use Rattle.payloads.specs.declared.uplink.UplinkPayload.{UplinkPayload}
@@ -101,17 +101,6 @@ uplink-read-back p h v at e hc hr hv =
     ap (λ (x : List ℕ). uplinkAt at (x ++ v)) (g .2 ∙ spelt 5 u (p .«relay_id») (k .0))
     ∙ sym (uplink-is at b (omega arith) (omega arith) (p .metadata) (p .«relay_id») (sym (ap upOf (listed 5 u (k .0)) ∙ k .2)) (sym (four-is (p .«relay_id») hr)))
     ∙ ap (λ (n : ℕ). AnUplink (record { metadata = p .metadata; «relay_id» = p .«relay_id»; «phy_payload» = record { start = 9 + at; len = n } })) l
-
--- of a downlink the frequency is what the three bytes of its head mean
-abbrev pub heard : DownlinkMetadata → List ℕ → DownlinkMetadata
-heard m h =
-    record {
-      «uplink_id» = m .«uplink_id»;
-      dr = m .dr;
-      frequency = hertzOf (getD h 2 0) (getD h 3 0) (getD h 4 0);
-      «tx_power» = m .«tx_power»;
-      delay = m .delay;
-    }
 
 pub downlink-read-back : (p : DownlinkPayload) (h v : List ℕ) (at : ℕ) → downlinkHead p ≡ bytes h → p .«relay_id» < 4294967296 → length v ≤ 8177
     → downlinkAt at (h ++ v) ≡ ADownlink (record { metadata = heard (p .metadata) h; «relay_id» = p .«relay_id»; «phy_payload» = record { start = 10 + at; len = length v } })

@@ -14,7 +14,7 @@ use Rattle.base.specs.declared.Written.the-variants.{Refused}
 use Rattle.wire.specs.Lay.{put}
 use Rattle.wire.specs.Number.{beBytes}
 use Rattle.wire.proofs.Laws.Lay.{put-front, two-puts}
-use Rattle.fields.proofs.Laws.Meta.{is-refused, not-refused}
+use Rattle.base.proofs.Answers.{is-refused, not-refused}
 use Rattle.fields.specs.Meta.{upOf, downOf}
 use Rattle.fields.specs.declared.meta.UplinkMetadata.{UplinkMetadata}
 use Rattle.fields.specs.declared.meta.DownlinkMetadata.{DownlinkMetadata}

@@ -2,14 +2,14 @@
 -- after them, with the lent output. Assumes nothing.
 use Prim.Native.Nat.{ℕ}
 use mathlib.Core.Bool.{Bool}
-use mathlib.Core.List.{List, _∷_, _++_}
+use mathlib.Core.List.{List, [], _∷_, _++_}
 use lib.Dec.{ltb}
 use lib.ListN.{length}
 use Rattle.base.specs.Pick.{pick}
-use Rattle.base.specs.Numbers.{frameLong, micMissing}
-use Rattle.base.specs.Answers.{Frame, bytes, refused}
+use Rattle.base.specs.Numbers.{frameLong, micMissing, bodyMost, messageMost}
+use Rattle.base.specs.Answers.{Frame, bytes, refused, unlessRefused}
 use Rattle.wire.specs.Number.{beBytes}
-use Rattle.fields.specs.Meta.{unlessRefused, upWire, downWire}
+use Rattle.fields.specs.Meta.{upWire, downWire}
 use Rattle.wire.specs.Run.{runRefusal, runBytes}
 use Rattle.payloads.specs.declared.uplink.UplinkPayload.{UplinkPayload}
 use Rattle.payloads.specs.declared.downlink.DownlinkPayload.{DownlinkPayload}
@@ -20,14 +20,17 @@ abbrev pub followed : Frame → List ℕ → Frame
 followed (refused n) v = refused n
 followed (bytes w) v = bytes (w ++ v)
 
--- and with a byte before it
+-- with a head before it, and with a byte
+abbrev pub headedBy : List ℕ → Frame → Frame
+headedBy h (refused n) = refused n
+headedBy h (bytes v) = bytes (h ++ v)
+
 abbrev pub prefixed : ℕ → Frame → Frame
-prefixed b (refused n) = refused n
-prefixed b (bytes w) = bytes (b ∷ w)
+prefixed b f = headedBy (b ∷ []) f
 
 -- a body, of which header byte and MIC would make a frame of five bytes more
 unfoldable pub limited : List ℕ → Frame
-limited w = pick (ltb 8187 (length w)) (refused frameLong) (bytes w)
+limited w = pick (ltb bodyMost (length w)) (refused frameLong) (bytes w)
 
 abbrev pub limitedOf : Frame → Frame
 limitedOf (refused n) = refused n
@@ -36,7 +39,7 @@ limitedOf (bytes w) = limited w
 -- header byte and body, with the MIC behind them
 unfoldable pub withMic : Bool → ℕ → Frame → Frame
 withMic has mic (refused n) = refused n
-withMic has mic (bytes w) = pick has (pick (ltb 8188 (length w)) (refused frameLong) (bytes (w ++ beBytes 4 mic))) (refused micMissing)
+withMic has mic (bytes w) = pick has (pick (ltb messageMost (length w)) (refused frameLong) (bytes (w ++ beBytes 4 mic))) (refused micMissing)
 
 -- a head, and a run of s behind it
 abbrev pub withRun : List ℕ → Run → Frame → Frame

@@ -38,7 +38,7 @@ impl DownlinkPayload {
     pub fn read_at(b: &[u8], at: u8) -> DownlinkRead
         ensures { λ r. ⌜ r ≡ downlinkAt at (now (b .entry)) ⌝ }
     {
-        if Limit::FRAME - 5 < b.len() {
+        if Limit::BODY < b.len() {
             return DownlinkRead::Refused(Refusal::FRAME_LONG);
         }
         if b.len() < DownlinkPayload::LEAST {

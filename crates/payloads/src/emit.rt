@@ -42,7 +42,7 @@ pub fn write_body(head: &[u8], payload: &[u8], out: &mut [u8]) -> Written
     if Limit::FRAME < payload.len() {
         return Written::Refused(Refusal::FRAME_LONG);
     }
-    if Limit::FRAME - 5 < head.len() + payload.len() {
+    if Limit::BODY < head.len() + payload.len() {
         return Written::Refused(Refusal::FRAME_LONG);
     }
     let none = [0u8; 0];
@@ -70,7 +70,7 @@ pub fn write_frame(
     if Limit::FRAME < payload.len() {
         return Written::Refused(Refusal::FRAME_LONG);
     }
-    if Limit::FRAME - 5 < head.len() + payload.len() {
+    if Limit::BODY < head.len() + payload.len() {
         return Written::Refused(Refusal::FRAME_LONG);
     }
     let byte = [first];

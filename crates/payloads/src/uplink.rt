@@ -38,7 +38,7 @@ impl UplinkPayload {
     pub fn read_at(b: &[u8], at: u8) -> UplinkRead
         ensures { λ r. ⌜ r ≡ uplinkAt at (now (b .entry)) ⌝ }
     {
-        if Limit::FRAME - 5 < b.len() {
+        if Limit::BODY < b.len() {
             return UplinkRead::Refused(Refusal::FRAME_LONG);
         }
         if b.len() < UplinkPayload::LEAST {

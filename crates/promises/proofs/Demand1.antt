@@ -32,8 +32,8 @@ use Rattle.packets.specs.declared.mesh.Payload.{Payload}
 use Rattle.packets.specs.declared.mesh.Payload.the-variants as payload
 use Rattle.packets.specs.declared.mesh.MeshPacket.{MeshPacket}
 use Rattle.heartbeats.specs.Heartbeat.{beatRefusal, beatOf, pathAfter, beatSays}
-use Rattle.cache.specs.Cache.{has, countIn, addedOf, addSays, packOf}
-use Rattle.packed.specs.Packed.{sizeIn, countIn as countInWords, isBelow, clearAnswer, clearWords, addAnswer, addWords}
+use Rattle.cache.specs.Cache.{has, ringCount, addedOf, addSays, packOf}
+use Rattle.packed.specs.Packed.{sizeIn, countIn, isBelow, clearAnswer, clearWords, addAnswer, addWords}
 use Rattle.cache.specs.declared.record.PayloadCache.{PayloadCache}
 use Rattle.cache.specs.declared.ring.Cache.{Cache}
 use Rattle.hops.specs.Hops.{leaves}
@@ -125,7 +125,7 @@ refused-heartbeat-changes-nothing v ys n e = by (eqb (beatRefusal (length v) (le
 
 -- ---- the cache: a refusal changes nothing, and neither does a hit
 
-cache-by : (c : Cache) (r : PayloadCache) (a b h : Bool) → ltb (c .size) 1 ≡ a → ltb 64 (c .size) ≡ b → has (take (countIn c) (c .slots)) r ≡ h
+cache-by : (c : Cache) (r : PayloadCache) (a b h : Bool) → ltb (c .size) 1 ≡ a → ltb 64 (c .size) ≡ b → has (take (ringCount c) (c .slots)) r ≡ h
     → (n : ℕ) → addSays (addedOf c r .answer) ≡ number n → addedOf c r .cache ≡ c
 unfolding addedOf
 cache-by c r true b h p q g n e = simp p
@@ -134,9 +134,9 @@ cache-by c r false false true p q g n e = simp (p, q, g)
 cache-by c r false false false p q g n e = absurd (never true n (simp (p, q, g) at e))
 
 pub refused-add-changes-nothing : (c : Cache) (r : PayloadCache) (n : ℕ) → addSays (addedOf c r .answer) ≡ number n → addedOf c r .cache ≡ c
-refused-add-changes-nothing c r n e = cache-by c r (ltb (c .size) 1) (ltb 64 (c .size)) (has (take (countIn c) (c .slots)) r) refl refl refl n e
+refused-add-changes-nothing c r n e = cache-by c r (ltb (c .size) 1) (ltb 64 (c .size)) (has (take (ringCount c) (c .slots)) r) refl refl refl n e
 
-hit-by : (c : Cache) (r : PayloadCache) (a b h : Bool) → ltb (c .size) 1 ≡ a → ltb 64 (c .size) ≡ b → has (take (countIn c) (c .slots)) r ≡ h
+hit-by : (c : Cache) (r : PayloadCache) (a b h : Bool) → ltb (c .size) 1 ≡ a → ltb 64 (c .size) ≡ b → has (take (ringCount c) (c .slots)) r ≡ h
     → addSays (addedOf c r .answer) ≡ value false → addedOf c r .cache ≡ c
 unfolding addedOf
 hit-by c r true b h p q g e = simp p
@@ -145,7 +145,7 @@ hit-by c r false false true p q g e = simp (p, q, g)
 hit-by c r false false false p q g e = let z : value true ≡ value false = simp (p, q, g) at e in let y : true ≡ false = cc in absurd (false≢true (sym y))
 
 pub hit-moves-nothing : (c : Cache) (r : PayloadCache) → addSays (addedOf c r .answer) ≡ value false → addedOf c r .cache ≡ c
-hit-moves-nothing c r e = hit-by c r (ltb (c .size) 1) (ltb 64 (c .size)) (has (take (countIn c) (c .slots)) r) refl refl refl e
+hit-moves-nothing c r e = hit-by c r (ltb (c .size) 1) (ltb 64 (c .size)) (has (take (ringCount c) (c .slots)) r) refl refl refl e
 
 -- the same of the cache in words
 clear-by : (size : ℕ) (w : List ℕ) (a b : Bool) → ltb size 1 ≡ a → ltb cacheMost size ≡ b → (n : ℕ) → checkedSays (clearAnswer size) size ≡ number n → clearWords size w ≡ w
@@ -157,7 +157,7 @@ clear-by size w false false p q n e = absurd (never size n (simp (p, q) at e))
 pub refused-clear-changes-nothing : (size : ℕ) (w : List ℕ) (n : ℕ) → checkedSays (clearAnswer size) size ≡ number n → clearWords size w ≡ w
 refused-clear-changes-nothing size w n e = clear-by size w (ltb size 1) (ltb cacheMost size) refl refl n e
 
-words-by : (w : List ℕ) (r : PayloadCache) (a b h : Bool) → ltb (sizeIn w) 1 ≡ a → ltb cacheMost (sizeIn w) ≡ b → isBelow w (packOf r) (countInWords w) ≡ h
+words-by : (w : List ℕ) (r : PayloadCache) (a b h : Bool) → ltb (sizeIn w) 1 ≡ a → ltb cacheMost (sizeIn w) ≡ b → isBelow w (packOf r) (countIn w) ≡ h
     → (n : ℕ) → addSays (addAnswer w r) ≡ number n → addWords w r ≡ w
 unfolding addAnswer addWords
 words-by w r true b h p q g n e = simp p
@@ -166,7 +166,7 @@ words-by w r false false true p q g n e = simp (p, q, g)
 words-by w r false false false p q g n e = absurd (never true n (simp (p, q, g) at e))
 
 pub refused-add-changes-no-word : (w : List ℕ) (r : PayloadCache) (n : ℕ) → addSays (addAnswer w r) ≡ number n → addWords w r ≡ w
-refused-add-changes-no-word w r n e = words-by w r (ltb (sizeIn w) 1) (ltb cacheMost (sizeIn w)) (isBelow w (packOf r) (countInWords w)) refl refl refl n e
+refused-add-changes-no-word w r n e = words-by w r (ltb (sizeIn w) 1) (ltb cacheMost (sizeIn w)) (isBelow w (packOf r) (countIn w)) refl refl refl n e
 
 -- ---- what a call stores in a lent place
 

@@ -1,18 +1,17 @@
 -- Demand 2, over the definitions that every contract is an equation with: which frames are read and which number the others get; what is
 -- read and written again, and written and read back; AES-128 and CMAC as the standards have them; sealing; items; the cache. Assumes
 -- nothing.
-use Prim.Native.Nat.{ℕ, _+_, _/_, _%_, _≤_, _<_}
+use Prim.Native.Nat.{ℕ, _+_, _/_, _≤_, _<_}
 use mathlib.Core.Bool.{Bool, true, false}
 use mathlib.Core.Path.{_≡_, refl, ap, _∙_}
 use mathlib.Core.List.{List, [], _++_, foldl, flatten}
 use lib.Dec.{ltb, eqb}
 use lib.ListN.{length, getD}
-use Rattle.base.specs.Pick.{pick}
 use Rattle.base.specs.Lists.{Bytes}
 use Rattle.base.specs.Blocks.{Block}
-use Rattle.base.specs.Numbers.{frameEmpty, frameShort, bodyShort, frameLong}
+use Rattle.base.specs.Numbers.{frameMost}
 use Rattle.base.specs.Answers.{value, bytes, numberIn}
-use Rattle.wire.specs.Run.{runBytes}
+use Rattle.wire.specs.Run.{runBytes, runAt}
 use Rattle.wire.specs.declared.run.Run.{Run}
 use Rattle.fips197.specs.Aes.{aes}
 use Rattle.cipher.specs.Words.{prepared, enciphered}
@@ -20,7 +19,7 @@ use Rattle.cipher.proofs.Laws.{prepared-agrees}
 use Rattle.cmac.specs.Cmac.{tag}
 use Rattle.cmac.specs.State.{begun, absorb1, finished}
 use Rattle.cmac.proofs.Laws.{pieces, tag-same}
-use Rattle.seal.specs.Stream.{keyBlock, sealedOf}
+use Rattle.seal.specs.Stream.{streamBlock, sealedOf}
 use Rattle.seal.proofs.Laws.{block-1, block-256, repeats, seal-twice}
 use Rattle.fields.specs.declared.header.PayloadType.the-variants.{Uplink, Downlink, Event, Command}
 use Rattle.items.specs.Items.{openingOf}
@@ -29,7 +28,7 @@ use Rattle.composed.specs.Composed.{Lists}
 use Rattle.bodies.specs.Body.{Lent, bodyOf, bodyBytes}
 use Rattle.bodies.specs.Open.{decryptOf, openedBy}
 use Rattle.payloads.specs.Write.{downlinkHead}
-use Rattle.payloads.proofs.Laws.{heard}
+use Rattle.payloads.specs.Read.{heard}
 use Rattle.payloads.specs.declared.uplink.UplinkPayload.{UplinkPayload}
 use Rattle.payloads.specs.declared.downlink.DownlinkPayload.{DownlinkPayload}
 use Rattle.events.specs.Seal.{eventSeal, commandSeal}
@@ -42,50 +41,46 @@ use Rattle.packets.specs.declared.mesh.MeshPacket.{MeshPacket}
 use Rattle.packets.specs.declared.mesh.MeshRead.{MeshRead}
 use Rattle.packets.specs.declared.mesh.MeshRead.the-variants.{Mesh, Refused}
 use Rattle.packets.specs.declared.any.Packet.the-variants.{Lora}
-use Rattle.trips.specs.Which.{numberOf, meshNumber, leastFrame, cleared, framed}
+use Rattle.trips.specs.Which.{meshNumber, packetNumber, cleared, framed}
 use Rattle.trips.proofs.Which.{which}
 use Rattle.trips.proofs.Same.{again}
-use Rattle.trips.proofs.Back.{holding, at, uplink-back, downlink-back, event-back, command-back, lora-back}
+use Rattle.trips.proofs.Back.{uplink-back, downlink-back, event-back, command-back, lora-back}
 use Rattle.trips.proofs.Sealed as sealed
 use Rattle.cache.specs.Cache.{sameRecord, answersLast, ringAnswers, newOf}
 use Rattle.cache.specs.declared.record.PayloadCache.{PayloadCache}
 use Rattle.cache.proofs.Laws.{same-is, adds-list, last-added}
-use Rattle.packed.specs.Packed.{clearedWords, packedAnswers}
-use Rattle.packed.proofs.Laws.{AllFit, packed-adds-list}
+use Rattle.packed.specs.Packed.{clearedWords, packedAnswers, SmallIds}
+use Rattle.packed.proofs.Laws.{packed-adds-list}
+use Rattle.packets.specs.Seal.{carrying}
 
 -- ---- reading
 
--- "Reading: 1, 5, 2, 3, 4", each exactly when document 01 says, by `numberOf`; 0 where the frame is read
-says-number : (r : MeshRead) → numberIn (meshSays r) ≡ meshNumber r
-says-number (Mesh p) = refl
-says-number (Refused n) = refl
-
-pub mesh-reader : (s : List ℕ) → numberIn (meshSays (meshOf s)) ≡ numberOf s
-mesh-reader s = says-number (meshOf s) ∙ which s
+-- "Reading: 1, 5, 2, 3, 4", each exactly when document 01 says, by `meshNumber`; 0 where the frame is read
+pub mesh-reader : (s : List ℕ) → numberIn (meshSays (meshOf s)) ≡ meshNumber s
+mesh-reader = which
 
 -- "The packet reader takes any other top bits as a LoRa frame, so it never gives 3": 1, 5, then 2 and 4 of a mesh frame
-abbrev pub packetNumber : List ℕ → ℕ
-packetNumber s =
-    pick (eqb (length s) 0) frameEmpty
-    (pick (ltb 8192 (length s)) frameLong
-    (pick (eqb (getD s 0 0 / 32) 7)
-    (pick (ltb (length s) 5) frameShort (pick (ltb (length s) (leastFrame (getD s 0 0 / 8 % 4))) bodyShort 0))
-    0))
-
-through : (r : MeshRead) → numberIn (packetSays (ofMesh r)) ≡ meshNumber r
+through : (r : MeshRead) → numberIn (packetSays (ofMesh r)) ≡ numberIn (meshSays r)
 through (Mesh p) = refl
 through (Refused n) = refl
 
-packet-by : (s : List ℕ) (a b c d : Bool) → eqb (length s) 0 ≡ a → ltb 8192 (length s) ≡ b → eqb (getD s 0 0 / 32) 7 ≡ c → ltb (length s) 5 ≡ d
+mesh-by : (s : List ℕ) → eqb (length s) 0 ≡ false → ltb frameMost (length s) ≡ false → eqb (getD s 0 0 / 32) 7 ≡ true
     → numberIn (packetSays (packetOf s)) ≡ packetNumber s
-unfolding packetOf numberOf
-packet-by s true b c d ea eb ec ed = simp ea
-packet-by s false true c d ea eb ec ed = simp (ea, eb)
-packet-by s false false false d ea eb ec ed = simp (ea, eb, ec)
-packet-by s false false true d ea eb ec ed = simp (ea, eb, ec) (through (meshOf s) ∙ which s ∙ simp (ea, eb, ec, ed))
+unfolding packetOf packetNumber
+mesh-by s ea eb ec = simp (ea, eb, ec) (through (meshOf s) ∙ which s)
+
+packet-by : (s : List ℕ) (a b c : Bool) → eqb (length s) 0 ≡ a → ltb frameMost (length s) ≡ b → eqb (getD s 0 0 / 32) 7 ≡ c
+    → numberIn (packetSays (packetOf s)) ≡ packetNumber s
+unfolding packetOf packetNumber meshNumber
+packet-by s true b true ea eb ec = simp (ea, ec)
+packet-by s true b false ea eb ec = simp (ea, ec)
+packet-by s false true true ea eb ec = simp (ea, eb, ec)
+packet-by s false true false ea eb ec = simp (ea, eb, ec)
+packet-by s false false true ea eb ec = mesh-by s ea eb ec
+packet-by s false false false ea eb ec = simp (ea, eb, ec)
 
 pub packet-reader : (s : List ℕ) → numberIn (packetSays (packetOf s)) ≡ packetNumber s
-packet-reader s = packet-by s (eqb (length s) 0) (ltb 8192 (length s)) (eqb (getD s 0 0 / 32) 7) (ltb (length s) 5) refl refl refl refl
+packet-reader s = packet-by s (eqb (length s) 0) (ltb frameMost (length s)) (eqb (getD s 0 0 / 32) 7) refl refl refl
 
 -- ---- reading and writing
 
@@ -96,30 +91,30 @@ read-then-written = again
 -- what is written is read back: a packet whose header's type is its payload's kind, with the run where it lies now
 module _ (l : Lent) (w : List ℕ) (p : MeshPacket) (written : meshFrame l p ≡ bytes w) (mic : p .mic < 4294967296) where
   pub uplink-written-then-read : (u : UplinkPayload) → p .payload ≡ payload.Uplink u → p .mhdr .«payload_type» ≡ Uplink → u .metadata .channel < 256 → u .«relay_id» < 4294967296
-      → (meshOf w ≡ Mesh (holding p (payload.Uplink (record { metadata = u .metadata; «relay_id» = u .«relay_id»; «phy_payload» = at 10 (runBytes (l .frame) (u .«phy_payload»)) }))))
-      × (runBytes w (at 10 (runBytes (l .frame) (u .«phy_payload»))) ≡ runBytes (l .frame) (u .«phy_payload»))
+      → (meshOf w ≡ Mesh (carrying p (payload.Uplink (record { metadata = u .metadata; «relay_id» = u .«relay_id»; «phy_payload» = runAt 10 (length (runBytes (l .frame) (u .«phy_payload»))) }))))
+      × (runBytes w (runAt 10 (length (runBytes (l .frame) (u .«phy_payload»)))) ≡ runBytes (l .frame) (u .«phy_payload»))
   uplink-written-then-read = uplink-back l w p written mic
 
   -- a downlink's frequency is heard as `heard` says: from 2.4 GHz on in whole steps of 200 Hz, and from 1.2 GHz up to there as its double (P6)
   pub downlink-written-then-read : (u : DownlinkPayload) → p .payload ≡ payload.Downlink u → p .mhdr .«payload_type» ≡ Downlink → u .«relay_id» < 4294967296
       → (h : List ℕ) × (downlinkHead u ≡ bytes h)
-      × (meshOf w ≡ Mesh (holding p (payload.Downlink (record { metadata = heard (u .metadata) h; «relay_id» = u .«relay_id»; «phy_payload» = at 11 (runBytes (l .frame) (u .«phy_payload»)) }))))
-      × (runBytes w (at 11 (runBytes (l .frame) (u .«phy_payload»))) ≡ runBytes (l .frame) (u .«phy_payload»))
+      × (meshOf w ≡ Mesh (carrying p (payload.Downlink (record { metadata = heard (u .metadata) h; «relay_id» = u .«relay_id»; «phy_payload» = runAt 11 (length (runBytes (l .frame) (u .«phy_payload»))) }))))
+      × (runBytes w (runAt 11 (length (runBytes (l .frame) (u .«phy_payload»)))) ≡ runBytes (l .frame) (u .«phy_payload»))
   downlink-written-then-read = downlink-back l w p written mic
 
   pub event-written-then-read : (u : EventPayload) → p .payload ≡ payload.Event u → p .mhdr .«payload_type» ≡ Event → u .timestamp < 4294967296 → u .«relay_id» < 4294967296
-      → (meshOf w ≡ Mesh (holding p (payload.Event (record { timestamp = u .timestamp; «relay_id» = u .«relay_id»; events = bodyOf 9 (length (bodyBytes true l (u .events))) }))))
-      × (runBytes w (at 9 (bodyBytes true l (u .events))) ≡ bodyBytes true l (u .events))
+      → (meshOf w ≡ Mesh (carrying p (payload.Event (record { timestamp = u .timestamp; «relay_id» = u .«relay_id»; events = bodyOf 9 (length (bodyBytes true l (u .events))) }))))
+      × (runBytes w (runAt 9 (length (bodyBytes true l (u .events)))) ≡ bodyBytes true l (u .events))
   event-written-then-read = event-back l w p written mic
 
   pub command-written-then-read : (u : CommandPayload) → p .payload ≡ payload.Command u → p .mhdr .«payload_type» ≡ Command → u .timestamp < 4294967296 → u .«relay_id» < 4294967296
-      → (meshOf w ≡ Mesh (holding p (payload.Command (record { timestamp = u .timestamp; «relay_id» = u .«relay_id»; commands = bodyOf 9 (length (bodyBytes false l (u .commands))) }))))
-      × (runBytes w (at 9 (bodyBytes false l (u .commands))) ≡ bodyBytes false l (u .commands))
+      → (meshOf w ≡ Mesh (carrying p (payload.Command (record { timestamp = u .timestamp; «relay_id» = u .«relay_id»; commands = bodyOf 9 (length (bodyBytes false l (u .commands))) }))))
+      × (runBytes w (runAt 9 (length (bodyBytes false l (u .commands)))) ≡ bodyBytes false l (u .commands))
   command-written-then-read = command-back l w p written mic
 
 -- a LoRa frame, unless its first byte would make it a mesh frame
 pub lora-written-then-read : (s w : List ℕ) (r : Run) → loraFrame s r ≡ bytes w → 1 ≤ length w → (getD w 0 0 / 32 ≡ 7 → ⊥)
-    → (packetSays (packetOf w) ≡ value (Lora (at 0 w))) × (w ≡ runBytes s r)
+    → (packetSays (packetOf w) ≡ value (Lora (runAt 0 (length w)))) × (w ≡ runBytes s r)
 lora-written-then-read s w r e l h = let b = lora-back s w r e l h in (ap packetSays (b .0), b .1)
 
 -- ---- the cipher and the MIC
@@ -137,7 +132,7 @@ cmac-is-rfc4493 key ps k h = pieces (enciphered (prepared key)) ps ∙ tag-same 
 
 -- "The block number starts at 1 in one byte and wraps: block 256 uses 0, block 257 repeats block 1" (counted from 0 here)
 pub key-blocks : (E : List ℕ → List ℕ) (A : ℕ → List ℕ)
-    → (keyBlock E A 0 ≡ E (A 1)) × (keyBlock E A 255 ≡ E (A 0)) × ((i : ℕ) → keyBlock E A (i + 256) ≡ keyBlock E A i)
+    → (streamBlock E A 0 ≡ E (A 1)) × (streamBlock E A 255 ≡ E (A 0)) × ((i : ℕ) → streamBlock E A (i + 256) ≡ streamBlock E A i)
 key-blocks E A = (block-1 E A, block-256 E A, repeats E A)
 
 -- "Sealing twice gives the clear bytes, still marked sealed"
@@ -173,5 +168,5 @@ pub cache-answers : (n : ℕ) → 1 ≤ n → n ≤ 64 → (rs : List PayloadCac
 cache-answers n h k rs = adds-list n h k rs ∙ last-added n h rs
 
 -- the same of the cache in words, for records whose id fits in 16 bits
-pub packed-cache-answers : (n : ℕ) → 1 ≤ n → n ≤ 64 → (rs : List PayloadCache) → AllFit rs → packedAnswers (clearedWords n) rs ≡ answersLast n [] rs
+pub packed-cache-answers : (n : ℕ) → 1 ≤ n → n ≤ 64 → (rs : List PayloadCache) → SmallIds rs → packedAnswers (clearedWords n) rs ≡ answersLast n [] rs
 packed-cache-answers n h k rs f = packed-adds-list n h k rs f ∙ last-added n h rs

@@ -17,14 +17,14 @@ use Rattle.packets.specs.declared.mesh.MeshPacket.{MeshPacket}
 use Rattle.packets.specs.declared.mesh.MeshRead.the-variants.{Mesh, Refused}
 use Rattle.mic.specs.Mic.{setMic, validateMic, validSays}
 use Rattle.cache.specs.Cache.{recordOf}
-use Rattle.hops.specs.Hops.{alone, counted}
-use Rattle.demand.specs.Demand.{bitOf, mayDiffer, Edit, edited, after, lastAccepted, afterOnly, openedUnder, itemsIn, decrypted, decoded}
+use Rattle.hops.specs.Hops.{alone, carryingCount}
+use Rattle.demand.specs.Demand.{bitOf, mayDiffer, Edit, edited, after, lastAccepted, afterOnly, openedUnder, piecesIn, decrypted, decoded}
 use Rattle.demand.proofs.Demand as demand
 
 -- what an accepted edit `e` of the frame `s`, which was read as `p`, leaves; `packet` is what it is read as from now on
 pub record Edited (s : List ℕ) (p : MeshPacket) (e : Edit) (packet : MeshPacket) : Type 0 where
   -- exactly what reading, setting the count, signing and writing afresh gives
-  pub signed-afresh : setMic (aes (e .key)) (alone s) (counted p (e .count)) ≡ Mesh packet
+  pub signed-afresh : setMic (aes (e .key)) (alone s) (carryingCount p (e .count)) ≡ Mesh packet
   pub written-afresh : meshFrame (alone s) packet ≡ bytes (after s e)
   pub answers : edited s e ≡ bytes (after s e)
   pub reads : meshOf (after s e) ≡ Mesh packet
@@ -38,9 +38,9 @@ pub record Edited (s : List ℕ) (p : MeshPacket) (e : Edit) (packet : MeshPacke
   -- it opens to the same items, kept, skipped and cut alike, under every encryption key and with every work buffer
   pub decrypts : (key work : List ℕ) → meshDecrypted key packet (packet .payload) (after s e) work ≡ openedUnder packet (meshDecrypted key p (p .payload) s work)
   pub work-same : (key work : List ℕ) → meshWork key (packet .payload) (after s e) work ≡ meshWork key (p .payload) s work
-  pub items-decrypted : (key work : List ℕ) → decrypted itemsIn key packet (after s e) work ≡ decrypted itemsIn key p s work
+  pub items-decrypted : (key work : List ℕ) → decrypted piecesIn key packet (after s e) work ≡ decrypted piecesIn key p s work
   pub decodes : (work : List ℕ) → meshDecoded packet (packet .payload) (after s e) work ≡ openedUnder packet (meshDecoded p (p .payload) s work)
-  pub items-decoded : (work : List ℕ) → decoded itemsIn packet (after s e) work ≡ decoded itemsIn p s work
+  pub items-decoded : (work : List ℕ) → decoded piecesIn packet (after s e) work ≡ decoded piecesIn p s work
 
 -- every edit with a count from 1 to 8 of a frame that is read
 pub edit-is-afresh : (s : List ℕ) (p : MeshPacket) (e : Edit) → Bytes s → meshOf s ≡ Mesh p → 1 ≤ e .count → e .count ≤ 8 → (packet : MeshPacket) × Edited s p e packet

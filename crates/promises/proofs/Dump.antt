@@ -12,7 +12,7 @@ use borrow.Author.Tests.{le-ltb, lt-ltb, ltb-true, ltb-false, eq-eqb, ne-eqb, eq
 use Rattle.base.specs.Pick.{pick}
 use Rattle.base.specs.Lists.{Bytes}
 use Rattle.base.specs.Answers.{value, number, numberIn}
-use Rattle.wire.specs.Hex.{nibbleOf, pairOf, allHex, unhex, hexText}
+use Rattle.wire.specs.Hex.{nibbleOf, pairOf, allHex, unhex, hexText, lower}
 use Rattle.fields.specs.Header.{headerOf, codeOf}
 use Rattle.fields.specs.declared.header.MHDR.{MHDR}
 use Rattle.fields.specs.declared.header.PayloadType.{PayloadType}
@@ -26,14 +26,14 @@ use Rattle.packets.specs.declared.any.Packet.{Packet}
 use Rattle.packets.specs.declared.any.Packet.the-variants.{Mesh}
 use Rattle.packets.specs.declared.any.PacketRead.{PacketRead}
 use Rattle.packets.specs.declared.any.PacketRead.the-variants.{Packet as PacketIs, Refused}
-use Rattle.trips.specs.Which.{leastFrame}
+use Rattle.trips.specs.Which.{leastFrame, meshNumber, packetNumber}
 use Rattle.trips.proofs.Which.{body-length}
 use Rattle.dump.specs.Ascii.{ascii}
-use Rattle.dump.specs.Dump.{lastDigits, decimal, meshText, frameText, badHex, lineText}
+use Rattle.dump.specs.Dump.{lastDigits, decimal, meshText, frameText, badHex, lineText, fromDigits}
 use Rattle.dump.proofs.Examples as examples
-use Rattle.dump.proofs.Laws.Decimal.{valueOf, decimal-back}
+use Rattle.dump.proofs.Laws.Decimal.{decimal-back}
 use Rattle.dump.proofs.Laws.Text.{text-of, hex-line, line-bad, line-long, line-text-most}
-use Rattle.promises.proofs.Demand2.{packetNumber, packet-reader}
+use Rattle.promises.proofs.Demand2.{packet-reader}
 
 -- ---- document 01's example, its four lines and what is printed for each
 
@@ -92,9 +92,11 @@ module _ (s : List ℕ) (n : ℕ) (e : packetSays (packetOf s) ≡ number n) whe
 
   numbers-by : (a b c d f : Bool) → eqb (length s) 0 ≡ a → ltb 8192 (length s) ≡ b → eqb (getD s 0 0 / 32) 7 ≡ c → ltb (length s) 5 ≡ d
       → ltb (length s) (leastFrame (getD s 0 0 / 8 % 4)) ≡ f → n ≡ packetNumber s → (n ≡ 1) ⊎ (n ≡ 2) ⊎ (n ≡ 4) ⊎ (n ≡ 5)
-  unfolding packetOf
-  numbers-by true b c d f ea eb ec ed ef p = inl (p ∙ simp ea)
-  numbers-by false true c d f ea eb ec ed ef p = inr (inr (inr (p ∙ simp (ea, eb))))
+  unfolding packetOf packetNumber meshNumber
+  numbers-by true b true d f ea eb ec ed ef p = inl (p ∙ simp (ea, ec))
+  numbers-by true b false d f ea eb ec ed ef p = inl (p ∙ simp (ea, ec))
+  numbers-by false true true d f ea eb ec ed ef p = inr (inr (inr (p ∙ simp (ea, eb, ec))))
+  numbers-by false true false d f ea eb ec ed ef p = inr (inr (inr (p ∙ simp (ea, eb, ec))))
   numbers-by false false false d f ea eb ec ed ef p = absurd (never _ n (simp (ea, eb, ec) at e))
   numbers-by false false true true f ea eb ec ed ef p = inr (inl (p ∙ simp (ea, eb, ec, ed)))
   numbers-by false false true false true ea eb ec ed ef p = inr (inr (inl (p ∙ simp (ea, eb, ec, ed, ef))))
@@ -106,7 +108,7 @@ module _ (s : List ℕ) (n : ℕ) (e : packetSays (packetOf s) ≡ number n) whe
       refl refl refl refl refl (refused-says-the-number s n e .1)
 
 -- a number is written in decimal: it reads back
-pub numbers-read-back : (n : ℕ) → n < 4294967296 → valueOf 0 (decimal n) ≡ n
+pub numbers-read-back : (n : ℕ) → n < 4294967296 → fromDigits 0 (decimal n) ≡ n
 numbers-read-back = decimal-back
 
 -- ---- a line of hex
@@ -153,9 +155,6 @@ pub hex-has-the-frames-text : (s : List ℕ) → Bytes s → lineText (hexText s
 hex-has-the-frames-text = hex-line
 
 -- "Hex is read in either case": A to F in lower case change nothing
-abbrev pub lower : ℕ → ℕ
-lower b = pick (ltb b 65) b (pick (ltb b 71) (b + 32) b)
-
 same-nibble : (b : ℕ) → nibbleOf (lower b) ≡ nibbleOf b
 unfolding nibbleOf
 same-nibble b = by (ltb b 65) (ltb b 71) refl refl

@@ -33,12 +33,12 @@ use Rattle.fields.proofs.Laws.Path.{path-back, path-again}
 use Rattle.fields.specs.declared.header.HeaderByte.the-variants.{Byte}
 use Rattle.fields.specs.declared.header.HeaderRead.the-variants.{Header}
 use Rattle.fields.specs.declared.signal.SignalByte.the-variants as signal
-use Rattle.heartbeats.specs.Heartbeat.{pathsOf, beatRefusal, beatOf, beatWire, beatSays}
-use Rattle.heartbeats.proofs.Laws.{Ids, beat-back}
-use Rattle.items.specs.Items.{badBeat, itemAt}
-use Rattle.items.proofs.Laws.{Turn, turn}
+use Rattle.heartbeats.specs.Heartbeat.{pathsOf, beatRefusal, beatOf, beatWire, beatSays, FourByteIds}
+use Rattle.heartbeats.proofs.Laws.{beat-back}
+use Rattle.items.specs.Items.{badBeat, itemAt, Turn}
+use Rattle.items.proofs.Laws.{turn}
 use Rattle.packets.specs.Read.{meshOf, meshSays}
-use Rattle.trips.specs.Which.{leastFrame, numberOf}
+use Rattle.trips.specs.Which.{leastFrame, meshNumber}
 use Rattle.cache.specs.Cache.{newOf}
 use Rattle.promises.proofs.Demand2.{mesh-reader}
 
@@ -137,7 +137,7 @@ abbrev isMesh : List ℕ → Type 0
 isMesh s = (5 ≤ length s) × (length s ≤ 8192) × (getD s 0 0 / 32 ≡ 7)
 
 pub long-enough : (s : List ℕ) → isMesh s → leastFrame (getD s 0 0 / 8 % 4) ≤ length s → numberIn (meshSays (meshOf s)) ≡ 0
-unfolding numberOf
+unfolding meshNumber
 long-enough s m l =
     let a : 5 ≤ length s = m .0 in
     let b : length s ≤ 8192 = m .1 in
@@ -145,7 +145,7 @@ long-enough s m l =
     ∙ simp (ne-eqb (length s) 0 (λ z. omega arith), le-ltb 8192 (length s) b, le-ltb (length s) 5 a, eq-eqb (getD s 0 0 / 32) 7 (m .2), le-ltb (length s) (leastFrame (getD s 0 0 / 8 % 4)) l)
 
 pub one-byte-less : (s : List ℕ) → isMesh s → length s < leastFrame (getD s 0 0 / 8 % 4) → numberIn (meshSays (meshOf s)) ≡ bodyShort
-unfolding numberOf
+unfolding meshNumber
 one-byte-less s m l =
     let a : 5 ≤ length s = m .0 in
     let b : length s ≤ 8192 = m .1 in
@@ -218,7 +218,7 @@ pub heartbeat-kept : (v : List ℕ) (places : ℕ) → length v ≤ 255 → badB
 unfolding beatOf beatRefusal
 heartbeat-kept v places h e l = simp (le-ltb 255 (length v) h, sym (uneven (length v)) ∙ e, le-ltb places (length v / 6) l)
 
-pub heartbeat-written-then-read : (ps : List RelayPath) (w : List ℕ) → Ids ps → beatWire ps ≡ bytes w → pathsOf w ≡ ps
+pub heartbeat-written-then-read : (ps : List RelayPath) (w : List ℕ) → FourByteIds ps → beatWire ps ≡ bytes w → pathsOf w ≡ ps
 heartbeat-written-then-read ps w h e = beat-back ps w h e .2
 
 -- ---- the cache's size

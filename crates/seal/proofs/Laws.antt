@@ -22,7 +22,7 @@ use Rattle.fips197.specs.Aes.{aes}
 use Rattle.fips197.proofs.Bytes.{aes-block}
 use Rattle.cipher.specs.Words.{prepared, enciphered}
 use Rattle.cipher.proofs.Laws.{prepared-agrees}
-use Rattle.seal.specs.Stream.{numbered, blockNumber, keyBlock, keyByte, streamed, sealedOf}
+use Rattle.seal.specs.Stream.{numbered, blockNumber, streamBlock, streamByte, streamed, sealedOf}
 
 -- the block number is one byte
 pub number-lt : (i : ℕ) → blockNumber i < 256
@@ -36,45 +36,45 @@ each-lt f h i (x ∷ s) b (suc k) = each-lt f h (suc i) s (λ j. b (suc j)) k
 
 module _ (E : List ℕ → List ℕ) (A : ℕ → List ℕ) where
   -- document 01's block 1 has number 1, block 256 has 0, and block 257 is block 1 again
-  pub block-1 : keyBlock E A 0 ≡ E (A 1)
-  unfolding keyBlock
+  pub block-1 : streamBlock E A 0 ≡ E (A 1)
+  unfolding streamBlock
   block-1 = refl
 
-  pub block-256 : keyBlock E A 255 ≡ E (A 0)
-  unfolding keyBlock
+  pub block-256 : streamBlock E A 255 ≡ E (A 0)
+  unfolding streamBlock
   block-256 = refl
 
-  pub repeats : (i : ℕ) → keyBlock E A (i + 256) ≡ keyBlock E A i
-  unfolding keyBlock
+  pub repeats : (i : ℕ) → streamBlock E A (i + 256) ≡ streamBlock E A i
+  unfolding streamBlock
   repeats i =
       let e : blockNumber (i + 256) ≡ blockNumber i = omega arith in
       ap (λ (n : ℕ). E (A n)) e
 
   pub streamed-length : (s : List ℕ) → length (streamed E A s) ≡ length s
   unfolding streamed
-  streamed-length s = imap-length (λ i x. bitXor x (keyByte E A i)) 0 s
+  streamed-length s = imap-length (λ i x. bitXor x (streamByte E A i)) 0 s
 
-  pub streamed-at : (s : List ℕ) (i : ℕ) → i < length s → getD (streamed E A s) i 0 ≡ bitXor (getD s i 0) (keyByte E A i)
+  pub streamed-at : (s : List ℕ) (i : ℕ) → i < length s → getD (streamed E A s) i 0 ≡ bitXor (getD s i 0) (streamByte E A i)
   unfolding streamed
-  streamed-at s i h = imap-at (λ i x. bitXor x (keyByte E A i)) s i h
+  streamed-at s i h = imap-at (λ i x. bitXor x (streamByte E A i)) s i h
 
   -- opening is sealing, whatever the cipher
   pub sealed-twice : (s : List ℕ) → streamed E A (streamed E A s) ≡ s
   unfolding streamed
   sealed-twice s =
-      let f : ℕ → ℕ → ℕ = λ i x. bitXor x (keyByte E A i) in
-      imap-twice f f 0 s ∙ imap-id (λ i x. f i (f i x)) 0 s (λ i x. xor-twice-r x (keyByte E A i))
+      let f : ℕ → ℕ → ℕ = λ i x. bitXor x (streamByte E A i) in
+      imap-twice f f 0 s ∙ imap-id (λ i x. f i (f i x)) 0 s (λ i x. xor-twice-r x (streamByte E A i))
 
   pub streamed-bytes : ((n : ℕ) → n < 256 → Bytes (E (A n))) → (s : List ℕ) → Bytes s → Bytes (streamed E A s)
-  unfolding streamed keyByte keyBlock
-  streamed-bytes h s b = each-lt (keyByte E A) (λ i. h (blockNumber (i / 16)) (number-lt (i / 16)) (i % 16)) 0 s b
+  unfolding streamed streamByte streamBlock
+  streamed-bytes h s b = each-lt (streamByte E A) (λ i. h (blockNumber (i / 16)) (number-lt (i / 16)) (i % 16)) 0 s b
 
 -- ciphers that agree on blocks
 module _ (E F : List ℕ → List ℕ) (agree : Agree E F) (A : ℕ → List ℕ) (block : (n : ℕ) → n < 256 → Block (A n)) where
   pub stream-same : (s : List ℕ) → streamed E A s ≡ streamed F A s
-  unfolding streamed keyByte keyBlock
+  unfolding streamed streamByte streamBlock
   stream-same s =
-      imap-same (λ i x. bitXor x (keyByte E A i)) (λ i x. bitXor x (keyByte F A i)) 0 s
+      imap-same (λ i x. bitXor x (streamByte E A i)) (λ i x. bitXor x (streamByte F A i)) 0 s
       (λ i x.
       let n = blockNumber (i / 16) in
       ap (λ (k : List ℕ). bitXor x (getD k (i % 16) 0)) (agree .same (A n) (block n (number-lt (i / 16)))))

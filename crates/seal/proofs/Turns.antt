@@ -20,7 +20,7 @@ use Rattle.wire.specs.Lay.{put}
 use Rattle.wire.proofs.Laws.Lay.{Laying, laying-none, laying-done, put-whole, put-front}
 use Rattle.fips197.specs.Aes.{aes}
 use Rattle.cipher.specs.Words.{prepared, enciphered}
-use Rattle.seal.specs.Stream.{numbered, blockNumber, keyBlock, keyByte, streamed, sealedOf}
+use Rattle.seal.specs.Stream.{numbered, blockNumber, streamBlock, streamByte, streamed, sealedOf}
 use Rattle.seal.proofs.Laws.{streamed-length, prepared-stream, seal-long, seal-fits}
 
 -- as many bytes of k as x has are enough
@@ -53,8 +53,8 @@ module _ (E : List ℕ → List ℕ) (A : ℕ → List ℕ) where
   adding-none o = record { laying = laying-none o 0 (streamed E A o); whole = λ h. refl; number = λ h. refl }
 
   -- byte j of the block at a place
-  key-at : (at j : ℕ) → at % 16 ≡ 0 → j < 16 → getD (E (A (blockNumber (at / 16)))) j 0 ≡ keyByte E A (at + j)
-  unfolding keyByte keyBlock
+  key-at : (at j : ℕ) → at % 16 ≡ 0 → j < 16 → getD (E (A (blockNumber (at / 16)))) j 0 ≡ streamByte E A (at + j)
+  unfolding streamByte streamBlock
   key-at at j h l =
       let d : (at + j) / 16 ≡ at / 16 = omega arith in
       let m : (at + j) % 16 ≡ j = omega arith in
@@ -65,9 +65,9 @@ module _ (E : List ℕ → List ℕ) (A : ℕ → List ℕ) where
       → added (take m (drop at o)) k ≡ take m (drop at (streamed E A o))
   unfolding streamed
   part-is o k at m h l z e =
-      let f : ℕ → ℕ → ℕ = λ i x. bitXor x (keyByte E A i) in
+      let f : ℕ → ℕ → ℕ = λ i x. bitXor x (streamByte E A i) in
       let n : length (take m (drop at o)) ≤ length k = rw length-take (omega arith) in
-      by-place (keyByte E A) at (take m (drop at o)) k n (λ j q. ap (λ (x : List ℕ). getD x j 0) e ∙ key-at at j z (omega arith))
+      by-place (streamByte E A) at (take m (drop at o)) k n (λ j q. ap (λ (x : List ℕ). getD x j 0) e ∙ key-at at j z (omega arith))
       ∙ sym (ap (take m) (imap-drop f 0 at o ∙ ap (λ (i : ℕ). imap f i (drop at o)) (zero-add at)) ∙ imap-take f at m (drop at o))
 
   -- one more: the part of buf from `at` up to e, at most 16 bytes, has become v

@@ -11,7 +11,7 @@ use lib.Dec.{ltb}
 use lib.ListN.{length, getD, take, drop, length-append, length-take}
 use lib.Seq.{drop-at, take-append-seam}
 use borrow.Author.Tests.{le-ltb, ne-eqb, ltb-false}
-use Rattle.fields.proofs.Laws.Meta.{unless-bytes}
+use Rattle.base.proofs.Answers.{unless-bytes}
 use Rattle.base.specs.Pick.{pick}
 use Rattle.base.specs.Answers.{bytes, refused}
 use Rattle.wire.specs.Number.{beBytes}
@@ -19,8 +19,8 @@ use Rattle.wire.specs.Part.{partOf}
 use Rattle.fields.specs.declared.header.PayloadType.{PayloadType}
 use Rattle.fields.specs.declared.header.PayloadType.the-variants.{Uplink, Downlink, Event, Command}
 use Rattle.fields.proofs.Laws.Header.{header-back}
-use Rattle.wire.specs.Run.{runRefusal, runBytes}
-use Rattle.payloads.specs.Read.{uplinkAt, downlinkAt}
+use Rattle.wire.specs.Run.{runRefusal, runBytes, runAt}
+use Rattle.payloads.specs.Read.{uplinkAt, downlinkAt, heard}
 use Rattle.bodies.specs.Body.{Lent, bodyOf, bodyBytes}
 use Rattle.events.specs.Read.{eventAt, commandAt}
 use Rattle.payloads.specs.Write.{uplinkHead, uplinkWire, downlinkHead, downlinkWire}
@@ -30,7 +30,7 @@ use Rattle.payloads.specs.declared.uplink.UplinkPayload.{UplinkPayload}
 use Rattle.payloads.specs.declared.downlink.DownlinkPayload.{DownlinkPayload}
 use Rattle.events.specs.declared.stamped.EventPayload.{EventPayload}
 use Rattle.events.specs.declared.stamped.CommandPayload.{CommandPayload}
-use Rattle.payloads.proofs.Laws.{run-bytes, uplink-length, downlink-length, uplink-read-back, heard, downlink-read-back}
+use Rattle.payloads.proofs.Laws.{run-bytes, uplink-length, downlink-length, uplink-read-back, downlink-read-back}
 use Rattle.events.proofs.Laws.{stamp-length, stamped-bytes, event-read-back, command-read-back}
 use Rattle.packets.specs.Read.{ofUplink, ofDownlink, ofEvent, ofCommand, payloadAt, meshOf, packetOf}
 use Rattle.packets.specs.Write.{payloadWire, meshFrame, loraFrame}
@@ -42,6 +42,7 @@ use Rattle.packets.specs.declared.mesh.MeshRead.the-variants.{Mesh}
 use Rattle.packets.specs.declared.any.Packet.the-variants.{Lora}
 use Rattle.packets.specs.declared.any.PacketRead.the-variants.{Packet as PacketIs}
 use Rattle.trips.proofs.Trip.{Made, made, readAs, frame-read}
+use Rattle.packets.specs.Seal.{carrying}
 
 -- the part behind x is v
 pub part-behind : (x v y : List ℕ) (n : ℕ) → length x ≡ n → partOf ((x ++ v) ++ y) n (length v) ≡ v
@@ -51,27 +52,21 @@ part-behind x v y n e =
     simp (le-ltb (length ((x ++ v) ++ y)) n (omega arith), le-ltb (length ((x ++ v) ++ y) - n) (length v) (omega arith))
     (ap (take (length v)) (ap (drop n) (append-assoc x v y) ∙ drop-at x (v ++ y) n e) ∙ take-append-seam v y)
 
--- a packet as it was, but for the payload
-abbrev pub holding : MeshPacket → Payload → MeshPacket
-holding p q = record { mhdr = p .mhdr; payload = q; «has_mic» = true; mic = p .mic }
-
-abbrev pub at : ℕ → List ℕ → Run
-at n v = record { start = n; len = length v }
-
 module _ (s : Lent) (w : List ℕ) (p : MeshPacket) (written : meshFrame s p ≡ bytes w) (small : p .mic < 4294967296) where
   k : Made s p w
   k = made s p w written
 
   -- by the body that was written
-  read : (t : PayloadType) → p .mhdr .«payload_type» ≡ t → (q : Payload) → payloadAt t (k .body) ≡ PayloadIs q → meshOf w ≡ Mesh (holding p q)
+  read : (t : PayloadType) → p .mhdr .«payload_type» ≡ t → (q : Payload) → payloadAt t (k .body) ≡ PayloadIs q → meshOf w ≡ Mesh (carrying p q)
   read t et q e =
       ap meshOf (k .is)
       ∙ frame-read (k .byte) (p .mic) (k .body) (k .fits) small (p .mhdr) (header-back (p .mhdr) (k .byte) (k .header))
       ∙ ap (λ (x : PayloadType). readAs (p .mhdr) (p .mic) (payloadAt x (k .body))) et
       ∙ ap (readAs (p .mhdr) (p .mic)) e
+      ∙ ap (λ (b : Bool). Mesh (record { mhdr = p .mhdr; payload = q; «has_mic» = b; mic = p .mic })) (sym (k .signed))
 
   -- the run, where it lies now
-  run-in : (h v : List ℕ) (n : ℕ) → k .body ≡ h ++ v → length h + 1 ≡ n → runBytes w (at n v) ≡ v
+  run-in : (h v : List ℕ) (n : ℕ) → k .body ≡ h ++ v → length h + 1 ≡ n → runBytes w (runAt n (length v)) ≡ v
   run-in h v n e l =
       let i : length (k .byte ∷ h) ≡ n = omega arith in
       ap (λ (x : List ℕ). partOf x n (length v)) (k .is ∙ ap (λ (x : List ℕ). (k .byte ∷ x) ++ beBytes 4 (p .mic)) e)
@@ -82,8 +77,8 @@ module _ (s : Lent) (w : List ℕ) (p : MeshPacket) (written : meshFrame s p ≡
 
   pub uplink-back : (u : UplinkPayload) → p .payload ≡ AnUplink u → p .mhdr .«payload_type» ≡ Uplink
       → u .metadata .channel < 256 → u .«relay_id» < 4294967296
-      → (meshOf w ≡ Mesh (holding p (AnUplink (record { metadata = u .metadata; «relay_id» = u .«relay_id»; «phy_payload» = at 10 (runBytes (s .frame) (u .«phy_payload»)) }))))
-      × (runBytes w (at 10 (runBytes (s .frame) (u .«phy_payload»))) ≡ runBytes (s .frame) (u .«phy_payload»))
+      → (meshOf w ≡ Mesh (carrying p (AnUplink (record { metadata = u .metadata; «relay_id» = u .«relay_id»; «phy_payload» = runAt 10 (length (runBytes (s .frame) (u .«phy_payload»))) }))))
+      × (runBytes w (runAt 10 (length (runBytes (s .frame) (u .«phy_payload»)))) ≡ runBytes (s .frame) (u .«phy_payload»))
   unfolding payloadWire uplinkWire payloadAt
   uplink-back u eu et hc hr =
       let v = runBytes (s .frame) (u .«phy_payload») in
@@ -97,8 +92,8 @@ module _ (s : Lent) (w : List ℕ) (p : MeshPacket) (written : meshFrame s p ≡
 
   pub downlink-back : (u : DownlinkPayload) → p .payload ≡ ADownlink u → p .mhdr .«payload_type» ≡ Downlink → u .«relay_id» < 4294967296
       → (h : List ℕ) × (downlinkHead u ≡ bytes h)
-      × (meshOf w ≡ Mesh (holding p (ADownlink (record { metadata = heard (u .metadata) h; «relay_id» = u .«relay_id»; «phy_payload» = at 11 (runBytes (s .frame) (u .«phy_payload»)) }))))
-      × (runBytes w (at 11 (runBytes (s .frame) (u .«phy_payload»))) ≡ runBytes (s .frame) (u .«phy_payload»))
+      × (meshOf w ≡ Mesh (carrying p (ADownlink (record { metadata = heard (u .metadata) h; «relay_id» = u .«relay_id»; «phy_payload» = runAt 11 (length (runBytes (s .frame) (u .«phy_payload»))) }))))
+      × (runBytes w (runAt 11 (length (runBytes (s .frame) (u .«phy_payload»)))) ≡ runBytes (s .frame) (u .«phy_payload»))
   unfolding payloadWire downlinkWire payloadAt
   downlink-back u eu et hr =
       let v = runBytes (s .frame) (u .«phy_payload») in
@@ -113,8 +108,8 @@ module _ (s : Lent) (w : List ℕ) (p : MeshPacket) (written : meshFrame s p ≡
       )
 
   pub event-back : (u : EventPayload) → p .payload ≡ AnEvent u → p .mhdr .«payload_type» ≡ Event → u .timestamp < 4294967296 → u .«relay_id» < 4294967296
-      → (meshOf w ≡ Mesh (holding p (AnEvent (record { timestamp = u .timestamp; «relay_id» = u .«relay_id»; events = bodyOf 9 (length (bodyBytes true s (u .events))) }))))
-      × (runBytes w (at 9 (bodyBytes true s (u .events))) ≡ bodyBytes true s (u .events))
+      → (meshOf w ≡ Mesh (carrying p (AnEvent (record { timestamp = u .timestamp; «relay_id» = u .«relay_id»; events = bodyOf 9 (length (bodyBytes true s (u .events))) }))))
+      × (runBytes w (runAt 9 (length (bodyBytes true s (u .events)))) ≡ bodyBytes true s (u .events))
   unfolding payloadWire eventWire payloadAt
   event-back u eu et ht hr =
       let v = bodyBytes true s (u .events) in
@@ -127,8 +122,8 @@ module _ (s : Lent) (w : List ℕ) (p : MeshPacket) (written : meshFrame s p ≡
       )
 
   pub command-back : (u : CommandPayload) → p .payload ≡ ACommand u → p .mhdr .«payload_type» ≡ Command → u .timestamp < 4294967296 → u .«relay_id» < 4294967296
-      → (meshOf w ≡ Mesh (holding p (ACommand (record { timestamp = u .timestamp; «relay_id» = u .«relay_id»; commands = bodyOf 9 (length (bodyBytes false s (u .commands))) }))))
-      × (runBytes w (at 9 (bodyBytes false s (u .commands))) ≡ bodyBytes false s (u .commands))
+      → (meshOf w ≡ Mesh (carrying p (ACommand (record { timestamp = u .timestamp; «relay_id» = u .«relay_id»; commands = bodyOf 9 (length (bodyBytes false s (u .commands))) }))))
+      × (runBytes w (runAt 9 (length (bodyBytes false s (u .commands)))) ≡ bodyBytes false s (u .commands))
   unfolding payloadWire commandWire payloadAt
   command-back u eu et ht hr =
       let v = bodyBytes false s (u .commands) in
@@ -156,7 +151,7 @@ short-enough w n v true q e = let z : _≡_ {A = ℕ} 0 1 = cc in absurd (omega 
 short-enough w n v false q e = (ltb-false 8192 n q, cc)
 
 pub lora-back : (s w : List ℕ) (r : Run) → loraFrame s r ≡ bytes w → 1 ≤ length w → (getD w 0 0 / 32 ≡ 7 → ⊥)
-    → (packetOf w ≡ PacketIs (Lora (at 0 w))) × (w ≡ runBytes s r)
+    → (packetOf w ≡ PacketIs (Lora (runAt 0 (length w)))) × (w ≡ runBytes s r)
 unfolding loraFrame packetOf
 lora-back s w r e l h =
     let a = unless-bytes (runRefusal (length s) r) _ w e in

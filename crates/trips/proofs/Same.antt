@@ -20,12 +20,12 @@ use Rattle.fields.specs.declared.header.HeaderRead.the-variants.{Header}
 use Rattle.fields.specs.declared.header.PayloadType.{PayloadType}
 use Rattle.fields.specs.declared.header.PayloadType.the-variants.{Uplink, Downlink, Event, Command}
 use Rattle.fields.proofs.Laws.Header.{marked, not-marked}
-use Rattle.fields.proofs.Laws.Meta.{not-refused}
+use Rattle.base.proofs.Answers.{not-refused}
 use Rattle.wire.specs.Run.{runRefusal, runBytes}
 use Rattle.payloads.specs.Read.{uplinkAt, downlinkAt}
 use Rattle.events.specs.Read.{eventAt, commandAt}
-use Rattle.payloads.specs.Write.{followed, withRun, uplinkHead, uplinkWire, downlinkHead, downlinkWire}
-use Rattle.events.specs.Write.{stamp, stampedWire, eventWire, commandWire, headedBy}
+use Rattle.payloads.specs.Write.{followed, withRun, uplinkHead, uplinkWire, downlinkHead, downlinkWire, headedBy}
+use Rattle.events.specs.Write.{stamp, stampedWire, eventWire, commandWire}
 use Rattle.wire.specs.declared.run.Run.{Run}
 use Rattle.composed.specs.Composed.{Lists}
 use Rattle.bodies.specs.Body.{bodyRefusal, bodyBytes, bodyWire}

@@ -9,11 +9,10 @@ use lib.Dec.{eqb}
 use lib.ListN.{length, length-append}
 use borrow.Author.Tests.{eqb-true, le-ltb}
 use Rattle.base.specs.Pick.{pick}
-use Rattle.base.specs.Answers.{Frame, bytes}
+use Rattle.base.specs.Answers.{Frame, bytes, unlessRefused}
 use Rattle.wire.specs.Run.{runRefusal, runBytes}
 use Rattle.wire.specs.declared.run.Run.{Run}
-use Rattle.fields.specs.Meta.{unlessRefused}
-use Rattle.fields.proofs.Laws.Meta.{not-refused, unless-bytes}
+use Rattle.base.proofs.Answers.{not-refused, unless-bytes}
 use Rattle.seal.specs.Stream.{streamed, sealedOf}
 use Rattle.seal.proofs.Laws.{seal-twice}
 use Rattle.items.specs.Items.{openingOf}

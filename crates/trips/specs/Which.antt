@@ -5,31 +5,33 @@ use mathlib.Core.List.{List}
 use lib.Dec.{ltb, eqb}
 use lib.ListN.{length, getD, set}
 use Rattle.base.specs.Pick.{pick}
-use Rattle.base.specs.Numbers.{frameEmpty, frameShort, notMesh, bodyShort, frameLong}
+use Rattle.base.specs.Numbers.{frameEmpty, frameShort, notMesh, bodyShort, frameLong, frameMost}
 use Rattle.composed.specs.Composed.{Lists}
 use Rattle.bodies.specs.Body.{Lent}
-use Rattle.packets.specs.declared.mesh.MeshRead.{MeshRead}
-use Rattle.packets.specs.declared.mesh.MeshRead.the-variants.{Mesh, Refused}
 
 -- by the type's code: uplink 14, downlink 15, event and command 13
 abbrev pub leastFrame : ℕ → ℕ
 leastFrame n = pick (eqb n 0) 14 (pick (eqb n 1) 15 13)
 
--- the number, or 0 where the frame is read
-unfoldable pub numberOf : List ℕ → ℕ
-numberOf s =
+-- the mesh reader's number, or 0 where the frame is read
+unfoldable pub meshNumber : List ℕ → ℕ
+meshNumber s =
     pick (eqb (length s) 0) frameEmpty
-    (pick (ltb 8192 (length s)) frameLong
+    (pick (ltb frameMost (length s)) frameLong
     (pick (ltb (length s) 5) frameShort
     (pick (eqb (getD s 0 0 / 32) 7) (pick (ltb (length s) (leastFrame (getD s 0 0 / 8 % 4))) bodyShort 0) notMesh)))
 
-abbrev pub meshNumber : MeshRead → ℕ
-meshNumber (Mesh p) = 0
-meshNumber (Refused n) = n
+-- the packet reader's: as the mesh reader's, but any other top bits are a LoRa frame, so it never gives 3
+unfoldable pub packetNumber : List ℕ → ℕ
+packetNumber s = pick (eqb (getD s 0 0 / 32) 7) (meshNumber s) (pick (eqb (length s) 0) frameEmpty (pick (ltb frameMost (length s)) frameLong 0))
+
+-- byte i without its top two bits
+abbrev pub lowSix : List ℕ → ℕ → List ℕ
+lowSix s i = set s i (getD s i 0 % 64)
 
 -- a frame with an uplink's two ignored bits as 0: byte 4 of it is the snr byte
 unfoldable pub cleared : List ℕ → List ℕ
-cleared s = pick (eqb (getD s 0 0 / 8 % 4) 0) (set s 4 (getD s 4 0 % 64)) s
+cleared s = pick (eqb (getD s 0 0 / 8 % 4) 0) (lowSix s 4) s
 
 -- a frame, and whatever else is lent with it
 abbrev pub framed : List ℕ → Lists → Lent

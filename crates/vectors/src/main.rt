@@ -1,5 +1,5 @@
-// Runs the published vectors of FIPS 197, SP 800-38A and RFC 4493, and document 01's rules of keys and its examples P1 to P10, and prints a
-// line for each. The file stdout beside src/ has the published values; the gate compares.
+// Runs the published vectors of FIPS 197, SP 800-38A and RFC 4493, and document 01's rules of keys, its examples P1 to P12 and the limits of
+// a cache, and prints a line for each. The file stdout beside src/ has the published values; the gate compares.
 ghost use Prim.Native.Nat.{_≤_};
 use aes128::Aes128Key;
 use aes128::encrypt_block;
@@ -8,6 +8,9 @@ use aes128::get_signing_key;
 use aes128::prepare;
 use base::Checked;
 use base::Written;
+use cache::Cache;
+use cache::CacheAnswer;
+use cache::PayloadCache;
 use cmac::Mac;
 use cmac::cmac;
 use cmac::subkey1;
@@ -19,6 +22,11 @@ use fields::PayloadType;
 use fields::UplinkMetadata;
 use fields::decode_freq;
 use fields::encode_freq;
+use items::Command;
+use items::Event;
+use items::ItemRead;
+use items::Opening;
+use items::OpeningRead;
 use libc::STDOUT_FILENO;
 use wire::part;
 use wire::read_hex;
@@ -424,6 +432,141 @@ fn headers() {
     header(b"P10 df                   ", 0xdf);
 }
 
+// ---- P11: what an opening reports of a payload, and its items one at a time
+fn counts(o: Opening) {
+    plain(b"kept ", o.kept as u64);
+    plain(b", skipped ", o.skipped as u64);
+    plain(b", bytes ", o.kept_bytes as u64);
+    plain(b", ", o.skipped_bytes as u64);
+    plain(b", ", o.cut_bytes as u64);
+    if o.clean {
+        say(b" clean\n");
+    } else {
+        say(b" unclean\n");
+    }
+}
+
+fn report(label: &[u8], r: OpeningRead) {
+    match r {
+        OpeningRead::Refused(n) => number(label, n),
+        OpeningRead::Opening(o) => {
+            say(label);
+            counts(o);
+        }
+    }
+}
+
+// The item at a place, and the place behind it.
+fn item(label: &[u8], end: usize, r: ItemRead) -> usize {
+    say(label);
+    match r {
+        ItemRead::Kept { item, next } => {
+            let run = item.value;
+            plain(b"kept ", item.get_type() as u64);
+            plain(b", at ", run.start as u64);
+            plain(b", bytes ", run.len as u64);
+            say(b"\n");
+            next
+        }
+        ItemRead::Skipped { item, next } => {
+            let run = item.value;
+            plain(b"skipped, at ", run.start as u64);
+            plain(b", bytes ", run.len as u64);
+            say(b"\n");
+            next
+        }
+        ItemRead::Cut(tail) => {
+            plain(b"cut, at ", tail.start as u64);
+            plain(b", bytes ", tail.len as u64);
+            say(b"\n");
+            end
+        }
+        ItemRead::End => {
+            say(b"end\n");
+            end
+        }
+        ItemRead::Refused(n) => {
+            number(b"", n);
+            end
+        }
+    }
+}
+
+fn p11() {
+    let p = b"\x01\x02\xaa\xbb\x00\x05\x01\x02\x03\x04\x05\x02\x00\x03\x09\xcc";
+    report(b"P11 event                ", Event::count(p));
+    let a = item(b"P11 event, item 1        ", 16, Event::decode(p, 0));
+    let b = item(b"P11 event, item 2        ", 16, Event::decode(p, a));
+    let c = item(b"P11 event, item 3        ", 16, Event::decode(p, b));
+    let d = item(b"P11 event, item 4        ", 16, Event::decode(p, c));
+    item(b"P11 event, item 5        ", 16, Event::decode(p, d));
+    report(b"P11 command              ", Command::count(p));
+    let e = item(b"P11 command, item 1      ", 16, Command::decode(p, 0));
+    item(b"P11 command, item 2      ", 16, Command::decode(p, e));
+}
+
+// ---- P12: the cache
+fn answer(a: CacheAnswer) {
+    match a {
+        CacheAnswer::New => say(b" yes"),
+        CacheAnswer::Seen => say(b" no"),
+        CacheAnswer::Refused(n) => plain(b" refused ", n as u64),
+    }
+}
+
+fn add(c: Cache, p_type: PayloadType, uplink_id: u16, timestamp: u32, relay_id: u32) -> Cache {
+    let told = c.added(PayloadCache {
+        p_type,
+        uplink_id,
+        timestamp,
+        relay_id,
+    });
+    let a = told.answer;
+    answer(a);
+    told.cache
+}
+
+fn uplink(c: Cache, id: u16) -> Cache {
+    add(c, PayloadType::Uplink, id, 0, 0x0a0b0c0d)
+}
+
+fn p12() {
+    say(b"P12                     ");
+    let c0 = Cache::new(2).cache;
+    let c1 = uplink(c0, 1);
+    let c2 = uplink(c1, 2);
+    let c3 = uplink(c2, 1);
+    let c4 = uplink(c3, 3);
+    let c5 = uplink(c4, 1);
+    uplink(c5, 2);
+    say(b"\n");
+}
+
+fn size(label: &[u8], n: usize) {
+    let made = Cache::new(n);
+    let a = made.answer;
+    match a {
+        Checked::Accepted => say(label),
+        Checked::Refused(k) => {
+            say(label);
+            plain(b" refused ", k as u64);
+        }
+    }
+    uplink(made.cache, 1);
+    say(b"\n");
+}
+
+// The third byte of a relay id counts, and so does the type.
+fn ids() {
+    say(b"other ids               ");
+    let c0 = Cache::new(64).cache;
+    let c1 = add(c0, PayloadType::Event, 0, 60, 0x0a0b0c0d);
+    let c2 = add(c1, PayloadType::Event, 0, 60, 0x0a0b0d0d);
+    let c3 = add(c2, PayloadType::Command, 0, 60, 0x0a0b0c0d);
+    add(c3, PayloadType::Event, 0, 60, 0x0a0b0c0d);
+    say(b"\n");
+}
+
 fn main() {
     fips197();
     sp800_38a();
@@ -440,4 +583,10 @@ fn main() {
     p3();
     frequencies();
     headers();
+    p11();
+    p12();
+    size(b"cache of 0              ", 0);
+    size(b"cache of 65             ", 65);
+    size(b"cache of 1              ", 1);
+    ids();
 }

@@ -19,6 +19,10 @@ nibbleOf b =
 unfoldable pub digitOf : ℕ → ℕ
 digitOf n = pick (ltb n 10) (48 + n) (97 + (n - 10))
 
+-- a digit from A to F in lower case, and any other byte as it is
+abbrev pub lower : ℕ → ℕ
+lower b = pick (ltb b 65) b (pick (ltb b 71) (b + 32) b)
+
 -- every byte is a digit
 unfoldable pub allHex : List ℕ → Bool
 allHex [] = true

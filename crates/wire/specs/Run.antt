@@ -6,6 +6,9 @@ use Rattle.base.specs.Pick.{pick}
 use Rattle.wire.specs.Part.{reachOf, reachNumber, partOf}
 use Rattle.wire.specs.declared.run.Run.{Run}
 
+abbrev pub runAt : ℕ → ℕ → Run
+runAt start len = record { start = start; len = len }
+
 -- 45 where it runs outside a slice of n bytes; a run of no bytes is empty whatever its place
 unfoldable pub runRefusal : ℕ → Run → ℕ
 runRefusal n r = pick (eqb (r .len) 0) 0 (reachNumber (reachOf n (r .start) (r .len)))

@@ -9,7 +9,7 @@ use Rattle.base.specs.Lists.{imap}
 use Rattle.cipher.specs.Words.{enciphered}
 use Rattle.cmac.proofs.Turns.{rest-is}
 use Rattle.kept.specs.Kept.{fixed}
-use Rattle.absorbed.proofs.Steps.{Left, left-more, left-last, entryAt, entry-ahead, left-over}
+use Rattle.absorbed.proofs.Steps.{Left, left-more, left-last, sixFrom, entry-ahead, left-over}
 use borrow.Author.Needs.{needs}
 use Rattle.absorbed.proofs.absorb_beat.Statement.{statement}
 use Rattle.absorbed.proofs.absorb_beat.Tie as tie
@@ -26,7 +26,7 @@ loop-holds c = (omega arith, record { same = refl })
 loop-again : tie.Need-loop-again Inv-loop μ-loop
 loop-again c = let v = now (c .before .before .before .before .before .before .before .before .before .before .before .args .value) in let i = c .before .before .before .before .before .before .before .before .before .loop .i in
     let h : i + 6 ≤ length v = omega arith in
-    (h, left-more _ _ _ _ _ (c .before .before .before .before .before .before .before .before .before .loop .inv .1) (entryAt v i) _ _ (entry-ahead v i h) (c .absorb .ensures))
+    (h, left-more _ _ _ _ _ (c .before .before .before .before .before .before .before .before .before .loop .inv .1) (sixFrom v i) _ _ (entry-ahead v i h) (c .absorb .ensures))
 
 returns : tie.Need-returns Inv-loop μ-loop
 returns c = let v = now (c .before .before .before .before .before .args .value) in let i = c .before .before .before .loop .i in

@@ -1,6 +1,6 @@
 -- `composed::run_of` meets its contract. Assumes nothing.
 use mathlib.Core.Path.{ap₂}
-use Rattle.composed.specs.Passes.{runAt}
+use Rattle.wire.specs.Run.{runAt}
 use borrow.Author.Needs.{needs}
 use Rattle.composed.proofs.run_of.Statement.{statement}
 use Rattle.composed.proofs.run_of.Tie as tie

@@ -11,7 +11,7 @@ use lib.Seq.{append-snoc, drop-at, take-all}
 use borrow.Author.Tests.{lt-ltb, le-ltb}
 use Rattle.base.specs.Pick.{pick}
 use Rattle.wire.specs.Part.{partOf}
-use Rattle.dump.specs.Dump.{lastDigits, decimal, digitsOf}
+use Rattle.dump.specs.Dump.{lastDigits, decimal, digitsOf, fromDigits}
 use Rattle.dump.specs.declared.digits.Digits.{Digits}
 
 -- ---- how many there are
@@ -31,30 +31,25 @@ decimal-most n = most 10 n
 
 -- ---- what they stand for
 
--- the number that digits are read as
-unfoldable pub valueOf : ℕ → List ℕ → ℕ
-valueOf v [] = v
-valueOf v (d ∷ s) = valueOf (v * 10 + (d - 48)) s
-
-value-more : (v d : ℕ) (s : List ℕ) → valueOf v (s ++ (d ∷ [])) ≡ valueOf v s * 10 + (d - 48)
-unfolding valueOf
+value-more : (v d : ℕ) (s : List ℕ) → fromDigits v (s ++ (d ∷ [])) ≡ fromDigits v s * 10 + (d - 48)
+unfolding fromDigits
 value-more v d [] = refl
 value-more v d (x ∷ s) = value-more (v * 10 + (x - 48)) d s
 
-back : (k n : ℕ) → n < 10 ^ k → valueOf 0 (lastDigits k n) ≡ n
-unfolding lastDigits valueOf
+back : (k n : ℕ) → n < 10 ^ k → fromDigits 0 (lastDigits k n) ≡ n
+unfolding lastDigits fromDigits
 back zero n h = let z : n < 1 = h in omega arith
 back (suc k) n h =
     let p : n < 10 ^ k * 10 = rw pow-suc at h in
     let q : n / 10 < 10 ^ k = omega arith in
     by (ltb n 10) (back k (n / 10) q)
   where
-    by : (t : Bool) → valueOf 0 (lastDigits k (n / 10)) ≡ n / 10 → valueOf 0 (pick t ((48 + n) ∷ []) (lastDigits k (n / 10) ++ ((48 + n % 10) ∷ []))) ≡ n
+    by : (t : Bool) → fromDigits 0 (lastDigits k (n / 10)) ≡ n / 10 → fromDigits 0 (pick t ((48 + n) ∷ []) (lastDigits k (n / 10) ++ ((48 + n % 10) ∷ []))) ≡ n
     by true e = omega arith
     by false e = value-more 0 (48 + n % 10) (lastDigits k (n / 10)) ∙ omega arith
 
 -- a u32 in decimal reads back
-pub decimal-back : (n : ℕ) → n < 4294967296 → valueOf 0 (decimal n) ≡ n
+pub decimal-back : (n : ℕ) → n < 4294967296 → fromDigits 0 (decimal n) ≡ n
 unfolding decimal
 decimal-back n h = back 10 n (omega arith)
 

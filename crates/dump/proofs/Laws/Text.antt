@@ -34,7 +34,7 @@ use Rattle.packets.specs.declared.any.PacketRead.the-variants.{Packet as Packet
 use Rattle.wire.specs.declared.run.Run.{Run}
 use Rattle.dump.proofs.Laws.Decimal.{decimal-most}
 use Rattle.dump.specs.Ascii.{ascii}
-use Rattle.dump.specs.Dump.{decimal, fourText, labelOf, lineOf, payloadText, meshText, counted, refusedText, readText, frameText, badHex, lineText}
+use Rattle.dump.specs.Dump.{decimal, fourText, labelOf, lineOf, payloadText, meshText, withNumber, refusedText, readText, frameText, badHex, lineText}
 
 -- ---- parts laid one behind the other
 
@@ -62,11 +62,11 @@ too-short : (w o : List ℕ) → length o < length w → Outcome (Refused 21) o 
 too-short w o h = (sym (no-room w o h .0), sym (no-room w o h .1))
 
 module _ (word o : List ℕ) (n k : ℕ) (e : k ≡ length (decimal n)) where
-  pub counted-short : length o < length word + k → Outcome (Refused 21) o (bytes (counted word n)) o
-  counted-short h = let a = length-append word (decimal n) in too-short (counted word n) o (omega arith)
+  pub counted-short : length o < length word + k → Outcome (Refused 21) o (bytes (withNumber word n)) o
+  counted-short h = let a = length-append word (decimal n) in too-short (withNumber word n) o (omega arith)
 
   pub counted-laid : length word + k ≤ length o → (x y : List ℕ) → x ≡ put o 0 word → y ≡ put x (length word) (decimal n)
-      → Outcome (Wrote (length word + k)) y (bytes (counted word n)) o
+      → Outcome (Wrote (length word + k)) y (bytes (withNumber word n)) o
   counted-laid h x y ex ey = laid-done (laid-more (laid-first o word ex refl) (decimal n) k ey e h) h
 
 four-length : (n : ℕ) → 8 ≡ length (fourText n)

@@ -6,14 +6,15 @@ use mathlib.Core.Path.{_≡_, refl, ap, _∙_}
 use mathlib.Core.List.{List, [], _∷_, _++_}
 use lib.Dec.{ltb, eqb}
 use lib.ListN.{length, getD}
-use borrow.Author.Tests.{ltb-false, eqb-true, eqb-false, eq-eqb, ne-eqb, le-ltb}
+use borrow.Author.Tests.{ltb-false, eqb-true, eqb-false, le-ltb}
 use Rattle.base.specs.Pick.{pick}
 use Rattle.base.specs.Lists.{Bytes}
 use Rattle.base.specs.Answers.{Frame, bytes, refused}
 use Rattle.base.proofs.First.{passed}
+use Rattle.base.proofs.Answers.{unless-bytes}
 use Rattle.wire.specs.Number.{beBytes}
 use Rattle.fields.specs.Freq.{hertzOf}
-use Rattle.fields.specs.Meta.{idBytes, idRefusal, unlessRefused, afterRssi, upOf, upWire, downRefusal, afterFreq, downOf, downWire}
+use Rattle.fields.specs.Meta.{idBytes, idRefusal, afterRssi, upOf, upWire, downRefusal, afterFreq, downOf, downWire}
 use Rattle.fields.specs.declared.meta.UplinkMetadata.{UplinkMetadata}
 use Rattle.fields.specs.declared.meta.DownlinkMetadata.{DownlinkMetadata}
 use Rattle.fields.specs.declared.signal.SignalByte.{SignalByte}
@@ -21,14 +22,6 @@ use Rattle.fields.specs.declared.signal.SignalByte.the-variants.{Byte, R
 use Rattle.fields.proofs.Laws.Bytes.{none, _▸_, small}
 use Rattle.fields.proofs.Laws.Signal.{rssi-back, rssi-again, rssi-byte-lt, snr-back, snr-again, snr-byte-lt}
 use Rattle.fields.proofs.Laws.Freq.{freq-steps, freq-again}
-
--- ---- what a chain of tests that ends in a number leads to
-
-pub is-refused : (k n : ℕ) (f : Frame) → k ≡ n → (k ≡ 0 → ⊥) → refused k ≡ unlessRefused n f
-is-refused k n f e h = rw (← e) (simp (ne-eqb k 0 h))
-
-pub not-refused : (n : ℕ) (f : Frame) → n ≡ 0 → f ≡ unlessRefused n f
-not-refused n f h = simp (eq-eqb n 0 h)
 
 -- ---- the bounds that a chain with no refusal gives
 
@@ -72,13 +65,6 @@ down-fits m e =
     }
 
 -- ---- what a frame of bytes came of
-
-pub unless-bytes : (n : ℕ) (f : Frame) (w : List ℕ) → unlessRefused n f ≡ bytes w → (n ≡ 0) × (f ≡ bytes w)
-unless-bytes n f w e = by (eqb n 0) refl e
-  where
-    by : (t : Bool) → eqb n 0 ≡ t → pick t f (refused n) ≡ bytes w → (n ≡ 0) × (f ≡ bytes w)
-    by true h q = (eqb-true n 0 h, q)
-    by false h q = let z : _≡_ {A = ℕ} 0 1 = cc in absurd (omega arith)
 
 -- both signals were accepted, with these bytes
 pub record Signals (before after : List ℕ) (s r : SignalByte) (w : List ℕ) : Type 0 where

@@ -6,7 +6,8 @@ use Prim.Native.Nat.{ℕ}
 use denote.Ref.{now}
 use Rattle.fips197.specs.Aes.{aes}
 use Rattle.bodies.specs.Body.{lent, bodyWire}
-use Rattle.events.specs.Write.{headedBy, stampedWire, eventWire, commandWire}
+use Rattle.payloads.specs.Write.{headedBy}
+use Rattle.events.specs.Write.{stampedWire, eventWire, commandWire}
 use Rattle.packets.specs.Write.{payloadWire}
 use Rattle.mic.proofs.Steps.{header-refused, header-byte}
 use borrow.Author.Needs.{needs}

@@ -64,4 +64,4 @@ returns-5 c = let a = c .before .before .before .before .before .before .before 
     (c .before .finish .ensures) (c .number .ensures) (omega (arith, c .before .before .before .before .before .before .before .before .before .before .before .before .if4 .left, k)))
 
 pub sign-body-spec : {M : Type 1} → statement M
-sign-body-spec = tie.close (tie.spec (λ c κs. search needs) returns (λ c κs. search needs) returns-2 returns-3 (λ c. search needs) (λ c. search needs) returns-4 (λ c κs. search needs) (λ c κs. search needs) (λ c. search needs) (λ c κs. search needs) (λ c κs. search needs) (λ c κs. search needs) (λ c κs. search needs) (λ c κs. search needs) returns-5)
+sign-body-spec = tie.close (tie.spec (λ c κs. search needs) returns (λ c κs. search needs) returns-2 returns-3 (λ c. search needs) returns-4 (λ c κs. search needs) (λ c κs. search needs) (λ c. search needs) (λ c κs. search needs) (λ c κs. search needs) (λ c κs. search needs) (λ c κs. search needs) (λ c κs. search needs) returns-5)

@@ -39,4 +39,4 @@ returns-4 c = let a = c .before .before .before .before .before .before .before 
     (c .before .finish .ensures) (c .number .ensures) (omega arith)
 
 pub sign-run-spec : {M : Type 1} → statement M
-sign-run-spec = tie.close (tie.spec returns returns-2 (λ c. search needs) (λ c. search needs) returns-3 (λ c κs. search needs) (λ c κs. search needs) (λ c. search needs) (λ c κs. search needs) (λ c κs. search needs) (λ c κs. search needs) (λ c κs. search needs) (λ c κs. search needs) returns-4)
+sign-run-spec = tie.close (tie.spec returns returns-2 (λ c. search needs) returns-3 (λ c κs. search needs) (λ c κs. search needs) (λ c. search needs) (λ c κs. search needs) (λ c κs. search needs) (λ c κs. search needs) (λ c κs. search needs) (λ c κs. search needs) returns-4)

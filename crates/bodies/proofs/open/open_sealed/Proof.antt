@@ -3,8 +3,7 @@ use mathlib.Core.Path.{sym, ap, _∙_}
 use mathlib.Core.Bool.{not}
 use denote.Ref.{now}
 use lib.ListN.{length}
-use Rattle.base.proofs.Answers.{out-length}
-use Rattle.fields.proofs.Laws.Meta.{is-refused}
+use Rattle.base.proofs.Answers.{out-length, is-refused}
 use Rattle.items.specs.Items.{openingOf}
 use Rattle.bodies.specs.declared.body.Held.the-variants.{Work as InWork}
 use Rattle.bodies.specs.Open.{openedAs}

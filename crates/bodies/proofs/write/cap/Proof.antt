@@ -1,4 +1,5 @@
 -- `bodies::write::cap` meets its contract. Assumes nothing.
+use borrow.Author.Needs.{needs}
 use borrow.Author.Tests.{lt-ltb, le-ltb}
 use Rattle.bodies.proofs.write.cap.Statement.{statement}
 use Rattle.bodies.proofs.write.cap.Tie as tie
@@ -10,4 +11,4 @@ returns-2 : tie.Need-returns-2
 returns-2 c = simp (le-ltb _ _ (c .if1 .left))
 
 pub cap-spec : {M : Type 1} → statement M
-cap-spec = tie.close (tie.spec returns returns-2)
+cap-spec = tie.close (tie.spec (λ c. search needs) returns returns-2)

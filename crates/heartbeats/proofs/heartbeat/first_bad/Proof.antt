@@ -53,7 +53,8 @@ use Rattle.fields.proofs.path.RelayPath as R
 use Rattle.fields.proofs.path.RelayPath.Laws as R′
 use Rattle.fields.specs.Path.{badEntry}
 use Rattle.heartbeats.proofs.Counted.{counted}
-use Rattle.heartbeats.proofs.Steps.{noPath, first-more}
+use Rattle.heartbeats.specs.Heartbeat.{noPath}
+use Rattle.heartbeats.proofs.Steps.{first-more}
 use Rattle.heartbeats.proofs.heartbeat.bad_after as after
 use Rattle.heartbeats.proofs.heartbeat.bad_after.Symbol as after-def
 use Rattle.heartbeats.proofs.heartbeat.bad_after.Symbol.{name as #after}

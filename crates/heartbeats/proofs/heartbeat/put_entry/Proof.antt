@@ -8,7 +8,8 @@ use Rattle.wire.specs.Lay.{put}
 use Rattle.fields.specs.Path.{pathBytes}
 use Rattle.fields.specs.declared.path.PathBytes.{PathBytes}
 use Rattle.fields.specs.Path.{sixOf}
-use Rattle.heartbeats.proofs.Steps.{six-put, six-length}
+use Rattle.fields.proofs.Laws.Path.{six-length}
+use Rattle.heartbeats.proofs.Steps.{six-put}
 use Rattle.heartbeats.proofs.heartbeat.put_entry.Statement.{statement}
 use Rattle.heartbeats.proofs.heartbeat.put_entry.Tie as tie
 

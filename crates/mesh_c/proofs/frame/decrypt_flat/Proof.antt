@@ -4,7 +4,7 @@ use Prim.Native.Nat.{ℕ}
 use denote.Ref.{now}
 use Rattle.packets.specs.Seal.{meshDecrypted, meshWork}
 use Rattle.packets.specs.declared.mesh.MeshPacket.{MeshPacket}
-use Rattle.mesh_c.specs.Face.{ofMesh, flatDecrypted, flatWork}
+use Rattle.mesh_c.specs.Face.{ifMesh, flatDecrypted, flatWork}
 use Rattle.packets.specs.declared.mesh.MeshOpened.the-variants.{Refused as NotOpened}
 use borrow.Author.Needs.{needs}
 use Rattle.mesh_c.proofs.frame.decrypt_flat.Statement.{statement}
@@ -15,8 +15,8 @@ unfolding flatDecrypted flatWork
 returns c =
     let a = c .before .before .before .before .before .before .args in
     let e = sym (c .before .n .given .1) ∙ c .before .before .before .mesh .ensures in (
-      ap (ofMesh (λ (p : MeshPacket). meshDecrypted (a .key .0) p (p .payload) (now (a .frame)) (now (a .work))) NotOpened) e,
-      ap (ofMesh (λ (p : MeshPacket). meshWork (a .key .0) (p .payload) (now (a .frame)) (now (a .work))) (λ (n : ℕ). now (a .work))) e,
+      ap (ifMesh (λ (p : MeshPacket). meshDecrypted (a .key .0) p (p .payload) (now (a .frame)) (now (a .work))) NotOpened) e,
+      ap (ifMesh (λ (p : MeshPacket). meshWork (a .key .0) (p .payload) (now (a .frame)) (now (a .work))) (λ (n : ℕ). now (a .work))) e,
     )
 
 returns-2 : tie.Need-returns-2
@@ -25,8 +25,8 @@ returns-2 c =
     let a = c .before .before .before .before .before .before .before .before .before .before .args in
     let e = sym (c .before .before .before .before .before .p .given .1) ∙ c .before .before .before .before .before .before .before .mesh .ensures in
     let w = c .before .before .decrypt .ensures in (
-      w .0 ∙ ap (ofMesh (λ (p : MeshPacket). meshDecrypted (a .key .0) p (p .payload) (now (a .frame)) (now (a .work))) NotOpened) e,
-      w .1 ∙ ap (ofMesh (λ (p : MeshPacket). meshWork (a .key .0) (p .payload) (now (a .frame)) (now (a .work))) (λ (n : ℕ). now (a .work))) e,
+      w .0 ∙ ap (ifMesh (λ (p : MeshPacket). meshDecrypted (a .key .0) p (p .payload) (now (a .frame)) (now (a .work))) NotOpened) e,
+      w .1 ∙ ap (ifMesh (λ (p : MeshPacket). meshWork (a .key .0) (p .payload) (now (a .frame)) (now (a .work))) (λ (n : ℕ). now (a .work))) e,
     )
 
 pub decrypt-flat-spec : {M : Type 1} → statement M

@@ -7,7 +7,7 @@ use Rattle.aes128.specs.declared.Aes128Key.{Aes128Key}
 use Rattle.bodies.specs.Body.{lent}
 use Rattle.packets.specs.Read.{meshSays}
 use Rattle.packets.specs.declared.mesh.MeshRead.{MeshRead}
-use Rattle.mesh_c.specs.Face.{flatBy, placeIn, flatSealed, flatSeal}
+use Rattle.mesh_c.specs.Face.{flatBy, meshPlace, flatSealed, flatSeal}
 use borrow.Author.Needs.{needs}
 use Rattle.mesh_c.proofs.frame.mesh_seal.Statement.{statement}
 use Rattle.mesh_c.proofs.frame.mesh_seal.Tie as tie
@@ -22,7 +22,7 @@ returns c =
       w .0 ∙ ap (λ (x : MeshRead). numberIn (meshSays x)) m,
       (
         s .1 ∙ ap (λ (k : Aes128Key). outOf (flatSeal (k .0) (lent (now (a .frame)) (now (a .work)) (now (a .kinds)) (now (a .spans)) (now (a .ids)) (now (a .rssis)) (now (a .snrs))) (flatBy (a .kind) (a .payload-type) (a .hop-count) (a .has-mic) (a .mic) (a .relay-id) (a .uplink-id) (a .dr) (a .rssi) (a .snr) (a .channel) (a .frequency) (a .tx-power) (a .delay) (a .timestamp) (a .body) (a .start) (a .len))) (now (a .out))) e,
-        w .1 ∙ ap (λ (x : MeshRead). leftBy placeIn (now (a .place)) (meshSays x)) m,
+        w .1 ∙ ap (λ (x : MeshRead). leftBy meshPlace (now (a .place)) (meshSays x)) m,
       ),
     )
 

@@ -1,11 +1,10 @@
 -- `mesh_c::frame::mesh_set_hop_count` meets its contract. Assumes nothing.
 use mathlib.Core.Path.{sym, ap, _∙_}
 use denote.Ref.{now}
-use Rattle.base.specs.Answers.{checkedOf}
+use Rattle.base.specs.Answers.{checkedOf, checkedNumber}
 use Rattle.fips197.specs.Aes.{aes}
 use Rattle.aes128.specs.declared.Aes128Key.{Aes128Key}
 use Rattle.hops.specs.Hops.{hopEdit, leaves}
-use Rattle.mesh_c.specs.Face.{checkedNumber}
 use borrow.Author.Needs.{needs}
 use Rattle.mesh_c.proofs.frame.mesh_set_hop_count.Statement.{statement}
 use Rattle.mesh_c.proofs.frame.mesh_set_hop_count.Tie as tie

@@ -5,7 +5,7 @@ use Rattle.base.specs.Answers.{numberIn, leftBy}
 use Rattle.packets.specs.Read.{meshSays}
 use Rattle.packets.specs.declared.mesh.MeshRead.{MeshRead}
 use Rattle.flat.specs.Flat.{placed}
-use Rattle.mesh_c.specs.Face.{placeIn}
+use Rattle.mesh_c.specs.Face.{meshPlace}
 use borrow.Author.Needs.{needs}
 use Rattle.mesh_c.proofs.frame.put_place.Statement.{statement}
 use Rattle.mesh_c.proofs.frame.put_place.Tie as tie
@@ -15,7 +15,7 @@ returns c =
     let a = c .before .before .before .args in
     let e = sym (c .before .read .given .1) in (
       ap (λ (m : MeshRead). numberIn (meshSays m)) e,
-      ap (λ (m : MeshRead). leftBy placeIn (now (a .place)) (meshSays m)) e,
+      ap (λ (m : MeshRead). leftBy meshPlace (now (a .place)) (meshSays m)) e,
     )
 
 returns-2 : tie.Need-returns-2
@@ -23,7 +23,7 @@ returns-2 c =
     let a = c .before .before .before .before .before .args in
     let e = sym (c .before .before .before .read2 .given .1) in (
       ap (λ (m : MeshRead). numberIn (meshSays m)) e,
-      c .place .ensures ∙ ap placed (c .before .of-mesh .ensures) ∙ ap (λ (m : MeshRead). leftBy placeIn (now (a .place)) (meshSays m)) e,
+      c .place .ensures ∙ ap placed (c .before .of-mesh .ensures) ∙ ap (λ (m : MeshRead). leftBy meshPlace (now (a .place)) (meshSays m)) e,
     )
 
 pub put-place-spec : {M : Type 1} → statement M

@@ -6,7 +6,7 @@ use Rattle.bodies.specs.Body.{lent}
 use Rattle.packets.specs.Seal.{sealOf, meshSealed}
 use Rattle.packets.specs.declared.mesh.MeshRead.{MeshRead}
 use Rattle.packets.specs.declared.mesh.MeshPacket.{MeshPacket}
-use Rattle.mesh_c.specs.Face.{ofMesh, flatSealed, flatSeal}
+use Rattle.mesh_c.specs.Face.{ifMesh, flatSealed, flatSeal}
 use Rattle.packets.specs.declared.mesh.MeshRead.the-variants.{Refused as NoMesh}
 use borrow.Author.Needs.{needs}
 use Rattle.mesh_c.proofs.frame.seal_flat.Statement.{statement}
@@ -17,8 +17,8 @@ unfolding flatSealed flatSeal outOf
 returns c =
     let a = c .before .before .before .before .before .before .before .before .args in
     let e = sym (c .before .n .given .1) ∙ c .before .before .before .mesh .ensures in (
-      ap (ofMesh (λ (p : MeshPacket). meshSealed (a .key .0) (lent (now (a .frame)) (now (a .work)) (now (a .kinds)) (now (a .spans)) (now (a .ids)) (now (a .rssis)) (now (a .snrs))) p (p .payload) (now (a .out))) NoMesh) e,
-      ap (λ (m : MeshRead). outOf (ofMesh (λ (p : MeshPacket). sealOf (a .key .0) (lent (now (a .frame)) (now (a .work)) (now (a .kinds)) (now (a .spans)) (now (a .ids)) (now (a .rssis)) (now (a .snrs))) (p .payload)) refused m) (now (a .out))) e,
+      ap (ifMesh (λ (p : MeshPacket). meshSealed (a .key .0) (lent (now (a .frame)) (now (a .work)) (now (a .kinds)) (now (a .spans)) (now (a .ids)) (now (a .rssis)) (now (a .snrs))) p (p .payload) (now (a .out))) NoMesh) e,
+      ap (λ (m : MeshRead). outOf (ifMesh (λ (p : MeshPacket). sealOf (a .key .0) (lent (now (a .frame)) (now (a .work)) (now (a .kinds)) (now (a .spans)) (now (a .ids)) (now (a .rssis)) (now (a .snrs))) (p .payload)) refused m) (now (a .out))) e,
     )
 
 returns-2 : tie.Need-returns-2
@@ -27,8 +27,8 @@ returns-2 c =
     let a = c .before .before .before .before .before .before .before .before .before .before .before .before .args in
     let e = sym (c .before .before .before .before .before .p .given .1) ∙ c .before .before .before .before .before .before .before .mesh .ensures in
     let w = c .before .before .encrypt .ensures in (
-      w .0 ∙ ap (ofMesh (λ (p : MeshPacket). meshSealed (a .key .0) (lent (now (a .frame)) (now (a .work)) (now (a .kinds)) (now (a .spans)) (now (a .ids)) (now (a .rssis)) (now (a .snrs))) p (p .payload) (now (a .out))) NoMesh) e,
-      w .1 ∙ ap (λ (m : MeshRead). outOf (ofMesh (λ (p : MeshPacket). sealOf (a .key .0) (lent (now (a .frame)) (now (a .work)) (now (a .kinds)) (now (a .spans)) (now (a .ids)) (now (a .rssis)) (now (a .snrs))) (p .payload)) refused m) (now (a .out))) e,
+      w .0 ∙ ap (ifMesh (λ (p : MeshPacket). meshSealed (a .key .0) (lent (now (a .frame)) (now (a .work)) (now (a .kinds)) (now (a .spans)) (now (a .ids)) (now (a .rssis)) (now (a .snrs))) p (p .payload) (now (a .out))) NoMesh) e,
+      w .1 ∙ ap (λ (m : MeshRead). outOf (ifMesh (λ (p : MeshPacket). sealOf (a .key .0) (lent (now (a .frame)) (now (a .work)) (now (a .kinds)) (now (a .spans)) (now (a .ids)) (now (a .rssis)) (now (a .snrs))) (p .payload)) refused m) (now (a .out))) e,
     )
 
 pub seal-flat-spec : {M : Type 1} → statement M

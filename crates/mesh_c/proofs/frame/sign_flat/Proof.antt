@@ -4,7 +4,7 @@ use denote.Ref.{now}
 use Rattle.fips197.specs.Aes.{aes}
 use Rattle.bodies.specs.Body.{lent}
 use Rattle.mic.specs.Mic.{setMic}
-use Rattle.mesh_c.specs.Face.{ofMesh, flatSigned}
+use Rattle.mesh_c.specs.Face.{ifMesh, flatSigned}
 use Rattle.packets.specs.declared.mesh.MeshRead.the-variants.{Refused as NoMesh}
 use borrow.Author.Needs.{needs}
 use Rattle.mesh_c.proofs.frame.sign_flat.Statement.{statement}
@@ -13,12 +13,12 @@ use Rattle.mesh_c.proofs.frame.sign_flat.Tie as tie
 returns : tie.Need-returns
 unfolding flatSigned
 returns c =
-    let a = c .before .before .before .before .before .before .before .args in ap (ofMesh (setMic (aes (a .key .0)) (lent (now (a .frame)) (now (a .work)) (now (a .kinds)) (now (a .spans)) (now (a .ids)) (now (a .rssis)) (now (a .snrs)))) NoMesh) (sym (c .before .n .given .1) ∙ c .before .before .before .mesh .ensures)
+    let a = c .before .before .before .before .before .before .before .args in ap (ifMesh (setMic (aes (a .key .0)) (lent (now (a .frame)) (now (a .work)) (now (a .kinds)) (now (a .spans)) (now (a .ids)) (now (a .rssis)) (now (a .snrs)))) NoMesh) (sym (c .before .n .given .1) ∙ c .before .before .before .mesh .ensures)
 
 returns-2 : tie.Need-returns-2
 unfolding flatSigned
 returns-2 c =
-    let a = c .before .before .before .before .before .before .before .before .args in c .set-mic .ensures ∙ ap (ofMesh (setMic (aes (a .key .0)) (lent (now (a .frame)) (now (a .work)) (now (a .kinds)) (now (a .spans)) (now (a .ids)) (now (a .rssis)) (now (a .snrs)))) NoMesh) (sym (c .before .before .p .given .1) ∙ c .before .before .before .before .mesh .ensures)
+    let a = c .before .before .before .before .before .before .before .before .args in c .set-mic .ensures ∙ ap (ifMesh (setMic (aes (a .key .0)) (lent (now (a .frame)) (now (a .work)) (now (a .kinds)) (now (a .spans)) (now (a .ids)) (now (a .rssis)) (now (a .snrs)))) NoMesh) (sym (c .before .before .p .given .1) ∙ c .before .before .before .before .mesh .ensures)
 
 pub sign-flat-spec : {M : Type 1} → statement M
 sign-flat-spec = tie.close (tie.spec (λ c κs. search needs) (λ c. search needs) (λ c. search needs) (λ c κs. search needs) returns returns-2)

@@ -5,7 +5,7 @@ use Rattle.base.specs.Answers.{answerOf, outOf, refused}
 use Rattle.bodies.specs.Body.{lent}
 use Rattle.packets.specs.Write.{packetFrame}
 use Rattle.packets.specs.declared.any.PacketRead.{PacketRead}
-use Rattle.mesh_c.specs.Face.{ofPacket, flatFrame}
+use Rattle.mesh_c.specs.Face.{ifPacket, flatFrame}
 use borrow.Author.Needs.{needs}
 use Rattle.mesh_c.proofs.frame.write_packet.Statement.{statement}
 use Rattle.mesh_c.proofs.frame.write_packet.Tie as tie
@@ -15,8 +15,8 @@ unfolding flatFrame answerOf outOf
 returns c =
     let a = c .before .before .before .before .before .before .before .before .args in
     let e = sym (c .before .n .given .1) ∙ c .before .before .before .packet .ensures in (
-      ap (λ (m : PacketRead). answerOf (ofPacket (packetFrame (lent (now (a .frame)) (now (a .work)) (now (a .kinds)) (now (a .spans)) (now (a .ids)) (now (a .rssis)) (now (a .snrs)))) refused m) (now (a .out))) e,
-      ap (λ (m : PacketRead). outOf (ofPacket (packetFrame (lent (now (a .frame)) (now (a .work)) (now (a .kinds)) (now (a .spans)) (now (a .ids)) (now (a .rssis)) (now (a .snrs)))) refused m) (now (a .out))) e,
+      ap (λ (m : PacketRead). answerOf (ifPacket (packetFrame (lent (now (a .frame)) (now (a .work)) (now (a .kinds)) (now (a .spans)) (now (a .ids)) (now (a .rssis)) (now (a .snrs)))) refused m) (now (a .out))) e,
+      ap (λ (m : PacketRead). outOf (ifPacket (packetFrame (lent (now (a .frame)) (now (a .work)) (now (a .kinds)) (now (a .spans)) (now (a .ids)) (now (a .rssis)) (now (a .snrs)))) refused m) (now (a .out))) e,
     )
 
 returns-2 : tie.Need-returns-2
@@ -25,8 +25,8 @@ returns-2 c =
     let a = c .before .before .before .before .before .before .before .before .before .before .before .before .args in
     let e = sym (c .before .before .before .before .before .p .given .1) ∙ c .before .before .before .before .before .before .before .packet .ensures in
     let w = c .before .before .write .ensures in (
-      w .0 ∙ ap (λ (m : PacketRead). answerOf (ofPacket (packetFrame (lent (now (a .frame)) (now (a .work)) (now (a .kinds)) (now (a .spans)) (now (a .ids)) (now (a .rssis)) (now (a .snrs)))) refused m) (now (a .out))) e,
-      w .1 ∙ ap (λ (m : PacketRead). outOf (ofPacket (packetFrame (lent (now (a .frame)) (now (a .work)) (now (a .kinds)) (now (a .spans)) (now (a .ids)) (now (a .rssis)) (now (a .snrs)))) refused m) (now (a .out))) e,
+      w .0 ∙ ap (λ (m : PacketRead). answerOf (ifPacket (packetFrame (lent (now (a .frame)) (now (a .work)) (now (a .kinds)) (now (a .spans)) (now (a .ids)) (now (a .rssis)) (now (a .snrs)))) refused m) (now (a .out))) e,
+      w .1 ∙ ap (λ (m : PacketRead). outOf (ifPacket (packetFrame (lent (now (a .frame)) (now (a .work)) (now (a .kinds)) (now (a .spans)) (now (a .ids)) (now (a .rssis)) (now (a .snrs)))) refused m) (now (a .out))) e,
     )
 
 pub write-packet-spec : {M : Type 1} → statement M

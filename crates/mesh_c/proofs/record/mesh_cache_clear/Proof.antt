@@ -1,6 +1,6 @@
 -- `mesh_c::record::mesh_cache_clear` meets its contract. Assumes nothing.
 use mathlib.Core.Path.{sym, ap, _∙_}
-use Rattle.mesh_c.specs.Face.{checkedNumber}
+use Rattle.base.specs.Answers.{checkedNumber}
 use borrow.Author.Needs.{needs}
 use Rattle.mesh_c.proofs.record.mesh_cache_clear.Statement.{statement}
 use Rattle.mesh_c.proofs.record.mesh_cache_clear.Tie as tie

@@ -25,4 +25,4 @@ returns-4 : tie.Need-returns-4
 returns-4 c = same-frame _ _ _ _ _ (body-whole (now (c .before .before .before .before .before .before .before .before .before .before .before .before .args .head)) (now (c .before .before .before .before .before .before .before .before .before .before .before .before .args .payload)) (omega arith)) (c .before .before .emit .ensures)
 
 pub write-body-spec : {M : Type 1} → statement M
-write-body-spec = tie.close (tie.spec returns returns-2 (λ c. search needs) (λ c. search needs) returns-3 (λ c. search needs) (λ c. search needs) (λ c κs. search needs) same-length returns-4)
+write-body-spec = tie.close (tie.spec returns returns-2 (λ c. search needs) returns-3 (λ c. search needs) (λ c. search needs) (λ c κs. search needs) same-length returns-4)

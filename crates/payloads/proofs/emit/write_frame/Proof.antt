@@ -29,4 +29,4 @@ returns-5 : tie.Need-returns-5
 returns-5 c = same-frame _ _ _ _ _ (frame-whole _ _ (c .before .before .before .before .before .before .before .before .before .before .before .before .before .before .args .first) (now (c .before .before .before .before .before .before .before .before .before .before .before .before .before .before .args .head)) (now (c .before .before .before .before .before .before .before .before .before .before .before .before .before .before .args .payload)) _ (c .before .before .before .before .before .before .be32-bytes .ensures) (not-false _ (c .before .before .before .before .before .before .before .before .before .before .if1 .left)) (omega arith)) (c .before .before .emit .ensures)
 
 pub write-frame-spec : {M : Type 1} → statement M
-write-frame-spec = tie.close (tie.spec returns returns-2 returns-3 (λ c. search needs) (λ c. search needs) returns-4 (λ c κs. search needs) (λ c. search needs) (λ c. search needs) (λ c κs. search needs) same-length returns-5)
+write-frame-spec = tie.close (tie.spec returns returns-2 returns-3 (λ c. search needs) returns-4 (λ c κs. search needs) (λ c. search needs) (λ c. search needs) (λ c κs. search needs) same-length returns-5)

@@ -6,7 +6,7 @@ use Rattle.cache.proofs.record.PayloadCache.unpack.Tie as tie
 
 returns : tie.Need-returns
 unfolding unpackOf
-returns c = rw (c .«kind-of» .ensures)
+returns c = rw (c .«type-by-code» .ensures)
 
 pub unpack-spec : {M : Type 1} → statement M
 unpack-spec =

@@ -6,7 +6,8 @@ use Rattle.fields.specs.Freq.{stepsWire}
 use Rattle.fields.specs.Meta.{downRefusal, afterFreq, downWire, downAnswer, downBytes}
 use Rattle.fields.specs.declared.meta.DownlinkMetadata.{DownlinkMetadata}
 use Rattle.fields.specs.declared.freq.StepsRead.{StepsRead}
-use Rattle.fields.proofs.Laws.Meta.{is-refused, not-refused, down-fits}
+use Rattle.base.proofs.Answers.{is-refused, not-refused}
+use Rattle.fields.proofs.Laws.Meta.{down-fits}
 use borrow.Author.Needs.{needs}
 use native.Mathlib.Omega.{arith}
 use mathlib.Core.Path.{_≡_, refl, sym, ap, _∙_}

@@ -8,7 +8,8 @@ use Rattle.fields.specs.Meta.{idBytes, idRefusal, afterSnr, afterRssi, u
 use Rattle.fields.specs.declared.meta.UplinkMetadata.{UplinkMetadata}
 use Rattle.fields.specs.declared.signal.SignalByte.{SignalByte}
 use Rattle.base.specs.Answers.{Frame}
-use Rattle.fields.proofs.Laws.Meta.{is-refused, not-refused, id-fits}
+use Rattle.base.proofs.Answers.{is-refused, not-refused}
+use Rattle.fields.proofs.Laws.Meta.{id-fits}
 use borrow.Author.Needs.{needs}
 use native.Mathlib.Omega.{arith}
 use mathlib.Core.Path.{_≡_, sym, ap, _∙_}

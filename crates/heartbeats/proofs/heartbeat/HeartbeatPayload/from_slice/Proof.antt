@@ -53,11 +53,11 @@ use Rattle.fields.specs.declared.path.RelayPath.{RelayPath}
 use Rattle.fields.proofs.path.RelayPath as R
 use Rattle.fields.proofs.path.RelayPath.Laws as R′
 use Rattle.heartbeats.specs.declared.heartbeat.HeartbeatRead.{HeartbeatRead}
-use Rattle.heartbeats.specs.Heartbeat.{entryAt, entries, beatOf}
+use Rattle.heartbeats.specs.Heartbeat.{entryAt, entries, beatOf, noPath}
 use Rattle.heartbeats.specs.Steps.{countOf}
 use Rattle.base.proofs.Says.{says-both}
 use Rattle.heartbeats.proofs.Counted.{counted}
-use Rattle.heartbeats.proofs.Steps.{noPath, filled, filled-more, filled-length, filled-all, Fits, count-fits}
+use Rattle.heartbeats.proofs.Steps.{filled, filled-more, filled-length, filled-all, Fits, count-fits}
 use Rattle.heartbeats.proofs.heartbeat.HeartbeatRead as E
 use Rattle.heartbeats.proofs.heartbeat.HeartbeatRead.Laws as E′
 use Rattle.heartbeats.proofs.heartbeat.HeartbeatPayload.check as check

@@ -58,11 +58,12 @@ use Rattle.fields.specs.declared.path.RelayPath.{RelayPath}
 use Rattle.fields.proofs.path.RelayPath as R
 use Rattle.fields.proofs.path.RelayPath.Laws as R′
 use Rattle.fields.specs.Path.{badEntry, sixOf}
-use Rattle.heartbeats.specs.Steps.{verdictOf, placesOf}
+use Rattle.heartbeats.specs.Steps.{beatVerdict, placesOf}
 use Rattle.heartbeats.proofs.Again.{LentAgain, lends-again, comes-back}
 use Rattle.base.proofs.Says.{says-both}
 use Rattle.heartbeats.proofs.Counted.{counted}
-use Rattle.heartbeats.proofs.Steps.{noPath, packed, packed-none, packed-more, packed-all, packed-fits, verdict-is, Fits}
+use Rattle.heartbeats.specs.Heartbeat.{noPath}
+use Rattle.heartbeats.proofs.Steps.{packed, packed-none, packed-more, packed-all, packed-fits, verdict-is, Fits}
 use Rattle.heartbeats.proofs.heartbeat.first_bad as first
 use Rattle.heartbeats.proofs.heartbeat.first_bad.Symbol as first-def
 use Rattle.heartbeats.proofs.heartbeat.first_bad.Symbol.{name as #first}
@@ -172,7 +173,7 @@ module _ {M : Type 1} (𝓤 : URA M) (H : Heap 𝓤) (A : Atoms 𝓤) (W : Given
   long : (i : ℕ) → length (ws i) ≡ length ls
   long i = put-length ls 0 _
 
-  module _ (a : Written) (va : Val) (is-a : Is E.the-row a (va ∷ [])) (answered : a ≡ verdictOf bad (length ps) (length ls)) where
+  module _ (a : Written) (va : Val) (is-a : Is E.the-row a (va ∷ [])) (answered : a ≡ beatVerdict bad (length ps) (length ls)) where
     module _ (n : ℕ) (counts-to : n ≡ placesOf a) where
       fits : Fits (length ls) (length ps) n
       fits = subst (λ (m : ℕ). Fits (length ls) (length ps) m) (sym (counts-to ∙ ap placesOf answered)) (packed-fits ps ls)
@@ -335,8 +336,8 @@ module _ {M : Type 1} (𝓤 : URA M) (H : Heap 𝓤) (A : Atoms 𝓤) (W : Given
       qed W (‵ ftrue ∷ []) ∵ owned ! usize (Is usize) (uint-makes 𝓤 H A W w64) (length ls) _ (refl, room₁ .0) $ fjoin ! $ owned ! usize (Is usize) (uint-makes 𝓤 H A W w64) (length ps) _ (refl, room₀ .0) $ fjoin ! $
       owned ! u8 (Is u8) (uint-makes 𝓤 H A W w8) bad _ (refl, bad-fits) $ fjoin ! $ nothing ! $ join ! $ frame ! $ done !
 
-  said-verdict : (a : Written) → ent 𝓤 (ensured 𝓤 H A verdict.ended (verdict.clauses 𝓤 H A at-mem run) tt (bad, (length ps, (length ls, tt))) tt a) (fact 𝓤 (a ≡ verdictOf bad (length ps) (length ls)))
-  said-verdict a = exE 𝓤 _ (λ ws. snd∗ 𝓤 (sem 𝓤 H A (lasts verdict.ended tt (bad, (length ps, (length ls, tt))) ws)) (fact 𝓤 (a ≡ verdictOf bad (length ps) (length ls))))
+  said-verdict : (a : Written) → ent 𝓤 (ensured 𝓤 H A verdict.ended (verdict.clauses 𝓤 H A at-mem run) tt (bad, (length ps, (length ls, tt))) tt a) (fact 𝓤 (a ≡ beatVerdict bad (length ps) (length ls)))
+  said-verdict a = exE 𝓤 _ (λ ws. snd∗ 𝓤 (sem 𝓤 H A (lasts verdict.ended tt (bad, (length ps, (length ls, tt))) ws)) (fact 𝓤 (a ≡ beatVerdict bad (length ps) (length ls))))
 
   module _ (bad-fits : bad < 2 ^ 8) (𝓣 : Tables 𝓤 H) (known : Triple 𝓤 (𝓣 .C #put-entry) (Put 𝓤 H A at-mem run)) (known-verdict : Triple 𝓤 (𝓣 .C #verdict) (Verdict 𝓤 H A at-mem run)) (known-places : Triple 𝓤 (𝓣 .C #places) (Places 𝓤 H A at-mem run)) (l₀ l₁ l₂ l₃ l₄ l₅ l₆ l₇ l₈ l₉ l₁₀ l₁₁ l₁₂ l₁₃ l₁₄ l₁₅ : ℕ) where
     abbrev En₁ : Env 𝓤 H
@@ -353,7 +354,7 @@ module _ {M : Type 1} (𝓤 : URA M) (H : Heap 𝓤) (A : Atoms 𝓤) (W : Given
         nothing ! $ use1 W (raw (Verdict 𝓤 H A at-mem run .pre to-verdict)) (goes-verdict bad-fits) $
         calls-at ! (fmOf 𝓤 H (W .laws) 𝓣) (Verdict 𝓤 H A at-mem run) known-verdict to-verdict (and-then ! (load ! (from ! (stop !)) (look ! 19 refl)) (and-then ! (load ! (from ! (stop !)) (look ! 17 refl)) (and-then ! (load ! (from ! (stop !)) (look ! 15 refl)) (no-more !)))) (λ v.
         use1 W (later (some (λ (a : Written). (‵ ftrue ⊛ ‵ (E.the-row .own a (v ∷ []))) ⊛ raw (ensured 𝓤 H A verdict.ended (verdict.clauses 𝓤 H A at-mem run) tt (bad, (length ps, (length ls, tt))) tt a)))) (id⊢ 𝓤 _) $ await ! tt $ pick ! (λ a.
-        split ! $ move ! (1 ∷ []) $ use1 W (raw (fact 𝓤 (a ≡ verdictOf bad (length ps) (length ls)))) (said-verdict a) $ heard ! (a ≡ verdictOf bad (length ps) (length ls)) (λ e. split ! $ drop ! $
+        split ! $ move ! (1 ∷ []) $ use1 W (raw (fact 𝓤 (a ≡ beatVerdict bad (length ps) (length ls)))) (said-verdict a) $ heard ! (a ≡ beatVerdict bad (length ps) (length ls)) (λ e. split ! $ drop ! $
         facts ! E.the-row (Is E.the-row) (shows 𝓤 H A E.the-row) a (v ∷ []) (λ is-a.
         land ! (from ! (stop !)) (init ! 24 refl (EL.lawful E.the-type E′.the-laws 𝓤 H A W tt .typed a _ is-a .0)) $
         counts a v is-a e 𝓣 known known-places l₀ l₁ l₂ l₃ l₄ l₅ l₆ l₇ l₈ l₉ l₁₀ l₁₁ l₁₂ l₁₃ l₁₄ l₁₅))))

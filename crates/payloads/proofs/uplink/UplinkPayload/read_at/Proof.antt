@@ -22,4 +22,4 @@ returns-3 : tie.Need-returns-3
 returns-3 c = uplink-is _ (now (c .before .before .before .before .before .before .before .before .before .before .before .before .before .before .args .b)) (omega arith) (omega arith) _ _ (c .before .before .before .before .before .from-bytes .ensures) (c .be32-of .ensures)
 
 pub read-at-spec : {M : Type 1} → statement M
-read-at-spec = tie.close (tie.spec (λ c. search needs) returns returns-2 (λ c. search needs) (λ c. search needs) (λ c. search needs) (λ c. search needs) (λ c. search needs) (λ c κs. search needs) (λ c. search needs) (λ c. search needs) (λ c. search needs) (λ c. search needs) (λ c κs. search needs) (λ c. search needs) (λ c. search needs) returns-3)
+read-at-spec = tie.close (tie.spec returns returns-2 (λ c. search needs) (λ c. search needs) (λ c. search needs) (λ c. search needs) (λ c. search needs) (λ c κs. search needs) (λ c. search needs) (λ c. search needs) (λ c. search needs) (λ c. search needs) (λ c κs. search needs) (λ c. search needs) (λ c. search needs) returns-3)

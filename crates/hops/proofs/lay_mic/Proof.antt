@@ -1,4 +1,4 @@
--- `hops::stamp` meets its contract. Assumes nothing.
+-- `hops::lay_mic` meets its contract. Assumes nothing.
 use Prim.Native.Nat.{ℕ}
 use native.Mathlib.Omega.{arith}
 use mathlib.Core.Path.{_≡_, sym, ap, _∙_}
@@ -11,11 +11,11 @@ use denote.Ref.{now}
 use Rattle.wire.specs.Number.{beOf, beBytes}
 use Rattle.wire.specs.Lay.{put}
 use Rattle.mic.specs.Mic.{micOf}
-use Rattle.hops.specs.Steps.{stamped}
+use Rattle.hops.specs.Steps.{micLaid}
 use Rattle.hops.proofs.Laws.{first-four}
 use borrow.Author.Needs.{needs}
-use Rattle.hops.proofs.stamp.Statement.{statement}
-use Rattle.hops.proofs.stamp.Tie as tie
+use Rattle.hops.proofs.lay_mic.Statement.{statement}
+use Rattle.hops.proofs.lay_mic.Tie as tie
 
 slice-aggregate-cmac : tie.Need-slice-aggregate-cmac
 slice-aggregate-cmac c = sym (length-take-le _ (now (c .before .before .args .frame)) (omega arith))
@@ -27,7 +27,7 @@ slice-aggregate-put-all c =
     sym (length-take-le _ t (omega arith))
 
 returns : tie.Need-returns
-unfolding stamped micOf
+unfolding micLaid micOf
 returns c =
     let a = c .before .before .before .before .before .before .before .before .args in
     let t = c .before .before .before .before .before .cmac .result in
@@ -37,5 +37,5 @@ returns c =
     ∙ ap (put (now (a .frame)) (a .end))
     (first-four t n (λ i. f i .fits) ∙ ap (λ (x : List ℕ). beBytes 4 (beOf (take 4 x))) (c .before .before .before .before .before .cmac .ensures))
 
-pub stamp-spec : {M : Type 1} → statement M
-stamp-spec = tie.close (tie.spec (λ c. search needs) slice-aggregate-cmac (λ c κs. search needs) (λ c. search needs) slice-aggregate-put-all (λ c κs. search needs) (λ c. search needs) returns)
+pub lay-mic-spec : {M : Type 1} → statement M
+lay-mic-spec = tie.close (tie.spec (λ c. search needs) slice-aggregate-cmac (λ c κs. search needs) (λ c. search needs) slice-aggregate-put-all (λ c κs. search needs) (λ c. search needs) returns)
