@@ -47,12 +47,6 @@ fn number(tag: [u8; 16]) -> u32
 fn sign_run(key: Aes128Key, first: u8, head: &[u8], payload: &[u8]) -> Made
     ensures { λ r. ⌜ r ≡ madeOf (aes (key .0)) (fitting (bytes (first ∷ (now (head .entry) ++ now (payload .entry))))) ⌝ }
 {
-    if Limit::FRAME < head.len() {
-        return Made::Refused(Refusal::FRAME_LONG);
-    }
-    if Limit::FRAME < payload.len() {
-        return Made::Refused(Refusal::FRAME_LONG);
-    }
     if Limit::BODY < head.len() + payload.len() {
         return Made::Refused(Refusal::FRAME_LONG);
     }
@@ -125,9 +119,6 @@ fn sign_body<'a>(
         return Made::Refused(bad);
     }
     let n = body.size(is_event, frame, work, kinds, spans, ids, rssis, snrs);
-    if Limit::FRAME < head.len() {
-        return Made::Refused(Refusal::FRAME_LONG);
-    }
     if Limit::FRAME < n {
         return Made::Refused(Refusal::FRAME_LONG);
     }

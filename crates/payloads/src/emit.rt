@@ -36,12 +36,6 @@ pub fn write_body(head: &[u8], payload: &[u8], out: &mut [u8]) -> Written
     ensures answer { λ r. ⌜ r ≡ answerOf (limited (now (head .entry) ++ now (payload .entry))) (now (out .entry)) ⌝ }
     ensures bytes { λ _. ⌜ now (out .exit) ≡ outOf (limited (now (head .entry) ++ now (payload .entry))) (now (out .entry)) ⌝ }
 {
-    if Limit::FRAME < head.len() {
-        return Written::Refused(Refusal::FRAME_LONG);
-    }
-    if Limit::FRAME < payload.len() {
-        return Written::Refused(Refusal::FRAME_LONG);
-    }
     if Limit::BODY < head.len() + payload.len() {
         return Written::Refused(Refusal::FRAME_LONG);
     }
@@ -63,12 +57,6 @@ pub fn write_frame(
 {
     if !has_mic {
         return Written::Refused(Refusal::MIC_MISSING);
-    }
-    if Limit::FRAME < head.len() {
-        return Written::Refused(Refusal::FRAME_LONG);
-    }
-    if Limit::FRAME < payload.len() {
-        return Written::Refused(Refusal::FRAME_LONG);
     }
     if Limit::BODY < head.len() + payload.len() {
         return Written::Refused(Refusal::FRAME_LONG);

@@ -21,22 +21,16 @@ returns : tie.Need-returns
 returns c = let a = c .before .before .before .args in over (aes (a .key .0)) (a .first) (now (a .head)) (now (a .payload)) (omega arith)
 
 returns-2 : tie.Need-returns-2
-returns-2 c = let a = c .before .before .before .before .args in over (aes (a .key .0)) (a .first) (now (a .head)) (now (a .payload)) (omega arith)
-
-returns-3 : tie.Need-returns-3
-returns-3 c = let a = c .before .before .before .before .before .args in over (aes (a .key .0)) (a .first) (now (a .head)) (now (a .payload)) (omega arith)
-
-returns-4 : tie.Need-returns-4
-returns-4 c = let a = c .before .before .before .before .before .before .before .before .before .before .before .before .before .before .before .before .before .args in
+returns-2 c = let a = c .before .before .before .before .before .before .before .before .before .before .before .before .before .before .before .args in
     let k = a .key .0 in
-    let n : length k ≡ 16 = search (c .before .before .before .before .before .before .before .before .before .before .before .before .before .before .before .before .before .good .0 .1 .1 .0, needs) in
-    let f : (i : ℕ) → Fits w8 (getD k i 0) = λ i. search (c .before .before .before .before .before .before .before .before .before .before .before .before .before .before .before .before .before .good .0 .1 .1 .0, needs) in
+    let n : length k ≡ 16 = search (c .before .before .before .before .before .before .before .before .before .before .before .before .before .before .before .good .0 .1 .1 .0, needs) in
+    let f : (i : ℕ) → Fits w8 (getD k i 0) = λ i. search (c .before .before .before .before .before .before .before .before .before .before .before .before .before .before .before .good .0 .1 .1 .0, needs) in
     let b : Block k = record { long = n; small = λ i. f i .fits } in
     let E = absorb1 (enciphered (c .before .before .before .before .before .before .before .before .before .before .before .prepare .result)) in
-    mic-is k b (a .first) (now (a .head)) (now (a .payload)) (c .before .before .before .before .before .before .before .before .before .before .before .before .before .before .before .before .before .fits .first .fits) (λ i. c .before .before .before .before .before .before .before .before .before .before .before .before .before .before .before .before .shared-slice-known .given i .fits) (λ i. c .before .before .before .before .before .before .before .before .before .before .before .before .before .before .before .shared-slice-known2 .given i .fits)
+    mic-is k b (a .first) (now (a .head)) (now (a .payload)) (c .before .before .before .before .before .before .before .before .before .before .before .before .before .before .before .fits .first .fits) (λ i. c .before .before .before .before .before .before .before .before .before .before .before .before .before .before .shared-slice-known .given i .fits) (λ i. c .before .before .before .before .before .before .before .before .before .before .before .before .before .shared-slice-known2 .given i .fits)
     _ _ _ _ (c .before .before .before .before .before .before .before .before .before .before .before .prepare .ensures)
     (c .before .before .before .absorb3 .ensures ∙ ap (λ (m : Mac). foldl E m (now (a .payload))) (c .before .before .before .before .before .absorb2 .ensures ∙ ap (λ (m : Mac). foldl E m (now (a .head))) (c .before .before .before .before .before .before .before .absorb .ensures ∙ ap (λ (m : Mac). foldl E m (a .first ∷ [])) (c .before .before .before .before .before .before .before .before .before .before .start .ensures))))
     (c .before .finish .ensures) (c .number .ensures) (omega arith)
 
 pub sign-run-spec : {M : Type 1} → statement M
-sign-run-spec = tie.close (tie.spec returns returns-2 (λ c. search needs) returns-3 (λ c κs. search needs) (λ c κs. search needs) (λ c. search needs) (λ c κs. search needs) (λ c κs. search needs) (λ c κs. search needs) (λ c κs. search needs) (λ c κs. search needs) returns-4)
+sign-run-spec = tie.close (tie.spec (λ c. search needs) returns (λ c κs. search needs) (λ c κs. search needs) (λ c. search needs) (λ c κs. search needs) (λ c κs. search needs) (λ c κs. search needs) (λ c κs. search needs) (λ c κs. search needs) returns-2)

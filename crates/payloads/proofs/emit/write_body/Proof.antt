@@ -12,17 +12,11 @@ use Rattle.payloads.proofs.emit.write_body.Tie as tie
 returns : tie.Need-returns
 returns c = refuses _ 5 _ (body-long (now (c .before .before .before .before .args .head)) (now (c .before .before .before .before .args .payload)) (omega arith))
 
-returns-2 : tie.Need-returns-2
-returns-2 c = refuses _ 5 _ (body-long (now (c .before .before .before .before .before .args .head)) (now (c .before .before .before .before .before .args .payload)) (omega arith))
-
-returns-3 : tie.Need-returns-3
-returns-3 c = refuses _ 5 _ (body-long (now (c .before .before .before .before .before .before .args .head)) (now (c .before .before .before .before .before .before .args .payload)) (omega arith))
-
 same-length : tie.Need-same-length
 same-length c = ap length (c .before .before .emit .ensures .1) ∙ out-length _ _
 
-returns-4 : tie.Need-returns-4
-returns-4 c = same-frame _ _ _ _ _ (body-whole (now (c .before .before .before .before .before .before .before .before .before .before .before .before .args .head)) (now (c .before .before .before .before .before .before .before .before .before .before .before .before .args .payload)) (omega arith)) (c .before .before .emit .ensures)
+returns-2 : tie.Need-returns-2
+returns-2 c = same-frame _ _ _ _ _ (body-whole (now (c .before .before .before .before .before .before .before .before .before .before .args .head)) (now (c .before .before .before .before .before .before .before .before .before .before .args .payload)) (omega arith)) (c .before .before .emit .ensures)
 
 pub write-body-spec : {M : Type 1} → statement M
-write-body-spec = tie.close (tie.spec returns returns-2 (λ c. search needs) returns-3 (λ c. search needs) (λ c. search needs) (λ c κs. search needs) same-length returns-4)
+write-body-spec = tie.close (tie.spec (λ c. search needs) returns (λ c. search needs) (λ c. search needs) (λ c κs. search needs) same-length returns-2)

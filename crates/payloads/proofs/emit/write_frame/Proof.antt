@@ -16,17 +16,11 @@ returns c = refuses _ 27 _ (no-mic _ _ _ (now (c .before .before .before .before
 returns-2 : tie.Need-returns-2
 returns-2 c = refuses _ 5 _ (frame-long _ _ _ (now (c .before .before .before .before .before .args .head)) (now (c .before .before .before .before .before .args .payload)) (not-false _ (c .before .if1 .left)) (omega arith))
 
-returns-3 : tie.Need-returns-3
-returns-3 c = refuses _ 5 _ (frame-long _ _ _ (now (c .before .before .before .before .before .before .args .head)) (now (c .before .before .before .before .before .before .args .payload)) (not-false _ (c .before .before .if1 .left)) (omega arith))
-
-returns-4 : tie.Need-returns-4
-returns-4 c = refuses _ 5 _ (frame-long _ _ _ (now (c .before .before .before .before .before .before .before .args .head)) (now (c .before .before .before .before .before .before .before .args .payload)) (not-false _ (c .before .before .before .if1 .left)) (omega arith))
-
 same-length : tie.Need-same-length
 same-length c = ap length (c .before .before .emit .ensures .1) ∙ out-length _ _
 
-returns-5 : tie.Need-returns-5
-returns-5 c = same-frame _ _ _ _ _ (frame-whole _ _ (c .before .before .before .before .before .before .before .before .before .before .before .before .before .before .args .first) (now (c .before .before .before .before .before .before .before .before .before .before .before .before .before .before .args .head)) (now (c .before .before .before .before .before .before .before .before .before .before .before .before .before .before .args .payload)) _ (c .before .before .before .before .before .before .be32-bytes .ensures) (not-false _ (c .before .before .before .before .before .before .before .before .before .before .if1 .left)) (omega arith)) (c .before .before .emit .ensures)
+returns-3 : tie.Need-returns-3
+returns-3 c = same-frame _ _ _ _ _ (frame-whole _ _ (c .before .before .before .before .before .before .before .before .before .before .before .before .args .first) (now (c .before .before .before .before .before .before .before .before .before .before .before .before .args .head)) (now (c .before .before .before .before .before .before .before .before .before .before .before .before .args .payload)) _ (c .before .before .before .before .before .before .be32-bytes .ensures) (not-false _ (c .before .before .before .before .before .before .before .before .if1 .left)) (omega arith)) (c .before .before .emit .ensures)
 
 pub write-frame-spec : {M : Type 1} → statement M
-write-frame-spec = tie.close (tie.spec returns returns-2 returns-3 (λ c. search needs) returns-4 (λ c κs. search needs) (λ c. search needs) (λ c. search needs) (λ c κs. search needs) same-length returns-5)
+write-frame-spec = tie.close (tie.spec returns (λ c. search needs) returns-2 (λ c κs. search needs) (λ c. search needs) (λ c. search needs) (λ c κs. search needs) same-length returns-3)
