@@ -50,6 +50,8 @@ use Rattle.mesh_c.proofs.field.mesh_path_write.Kinds as mesh-path-write
 use Rattle.mesh_c.proofs.field.mesh_path_write.Reads as mesh-path-write-reads
 use Rattle.mesh_c.proofs.item.mesh_stream.Kinds as mesh-stream-kinds
 use Rattle.mesh_c.proofs.item.mesh_stream.Reads as mesh-stream-reads
+use Rattle.mesh_c.proofs.item.put_length.Kinds as put-length-kinds
+use Rattle.mesh_c.proofs.item.put_length.Reads as put-length-reads
 use Rattle.mesh_c.proofs.item.counts_of.Kinds as counts-of-kinds
 use Rattle.mesh_c.proofs.item.counts_of.Reads as counts-of-reads
 use Rattle.mesh_c.proofs.item.mesh_count.Kinds as mesh-count-kinds
@@ -192,6 +194,10 @@ mesh-path-write κs a x y v w p q =
 mesh-stream : Fixed 3 mesh-stream-kinds.ps mesh-stream-kinds.r mesh-stream-reads.Post
 mesh-stream κs a x y v w p q =
     (p .0 ∙ sym (q .0), ap (λ (a : List ℕ). (tt, (tt, (tt, (tt, (tt, (a, tt))))))) (p .1 ∙ sym (q .1)))
+
+put-length : Fixed 1 put-length-kinds.ps put-length-kinds.r put-length-reads.Post
+put-length κs a x y v w p q =
+    (p .0 ∙ sym (q .0), ap (λ (a : ℕ). (tt, (a, tt))) (p .1 ∙ sym (q .1)))
 
 counts-of : Fixed 0 counts-of-kinds.ps counts-of-kinds.r counts-of-reads.Post
 counts-of κs a x y v w p q =

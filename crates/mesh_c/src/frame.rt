@@ -14,6 +14,7 @@ ghost use Rattle.hops.specs.Hops.{hopEdit, leaves};
 ghost use Rattle.flat.specs.Flat.{bit, meshFrom, numbersIn, rssiIn, snrIn};
 ghost use Rattle.mesh_c.specs.Face.{asItIs, flatBy, meshNumbers, meshRssi, meshSnr, meshMic, meshPlace, flatFrame, flatBody, flatSigned, flatValid, flatSealed, flatSeal, flatDecrypted, flatWork, flatDecoded, openedNumber, countsLeft, placeLeft, bare, bareOf, bareBy, knownId, knownTime, recordIn};
 use crate::item::counts_of;
+use crate::item::put_length;
 use aes128::Aes128Key;
 use base::Checked;
 use base::Refusal;
@@ -164,20 +165,6 @@ pub extern "C" fn mesh_read_body(
 }
 
 // ---- writing
-
-// Where bytes were written: how many, or nothing changed.
-fn put_length(w: Written, length: &mut u64) -> u8
-    ensures answer { λ r. ⌜ r ≡ numberIn (writtenSays w) ⌝ }
-    ensures length { λ _. ⌜ now (length .exit) ≡ leftBy asItIs (now (length .entry)) (writtenSays w) ⌝ }
-{
-    match w {
-        Written::Refused(n) => n,
-        Written::Bytes(n) => {
-            *length = n as u64;
-            0
-        }
-    }
-}
 
 fn write_packet<'a>(
     f: Flat,

@@ -50,6 +50,20 @@ pub extern "C" fn mesh_stream(
     }
 }
 
+// Where bytes were written: how many, or nothing changed.
+pub fn put_length(w: Written, length: &mut u64) -> u8
+    ensures answer { λ r. ⌜ r ≡ numberIn (writtenSays w) ⌝ }
+    ensures length { λ _. ⌜ now (length .exit) ≡ leftBy asItIs (now (length .entry)) (writtenSays w) ⌝ }
+{
+    match w {
+        Written::Refused(n) => n,
+        Written::Bytes(n) => {
+            *length = n as u64;
+            0
+        }
+    }
+}
+
 // ---- items
 
 // Kept items, skipped items, the bytes of kept items, of skipped items and of the cut tail, and 1 where nothing is skipped or cut.
@@ -209,11 +223,5 @@ pub extern "C" fn mesh_heartbeat_write(
     ensures out { λ _. ⌜ now (out .exit) ≡ outOf (beatWire (pathsIn (paths (now (ids .entry)) (now (rssis .entry)) (now (snrs .entry))))) (now (out .entry)) ⌝ }
     ensures length { λ _. ⌜ now (length .exit) ≡ leftBy asItIs (now (length .entry)) (writtenSays (answerOf (beatWire (pathsIn (paths (now (ids .entry)) (now (rssis .entry)) (now (snrs .entry))))) (now (out .entry)))) ⌝ }
 {
-    match write_path(ids, rssis, snrs, out) {
-        Written::Refused(n) => n,
-        Written::Bytes(n) => {
-            *length = n as u64;
-            0
-        }
-    }
+    put_length(write_path(ids, rssis, snrs, out), length)
 }

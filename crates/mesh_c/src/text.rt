@@ -3,7 +3,7 @@ ghost use mathlib.Core.Path.{_≡_};
 ghost use Rattle.base.specs.Answers.{answerOf, outOf, bytes, numberIn, leftBy, writtenSays};
 ghost use Rattle.dump.specs.Dump.{lineText, frameText};
 ghost use Rattle.mesh_c.specs.Face.{asItIs};
-use base::Written;
+use crate::item::put_length;
 use dump::dump_frame;
 use dump::dump_line;
 
@@ -14,13 +14,7 @@ pub extern "C" fn mesh_dump_line(line: &[u8], out: &mut [u8], length: &mut u64) 
     ensures out { λ _. ⌜ now (out .exit) ≡ outOf (bytes (lineText (now (line .entry)))) (now (out .entry)) ⌝ }
     ensures length { λ _. ⌜ now (length .exit) ≡ leftBy asItIs (now (length .entry)) (writtenSays (answerOf (bytes (lineText (now (line .entry)))) (now (out .entry)))) ⌝ }
 {
-    match dump_line(line, out) {
-        Written::Refused(n) => n,
-        Written::Bytes(n) => {
-            *length = n as u64;
-            0
-        }
-    }
+    put_length(dump_line(line, out), length)
 }
 
 #[no_mangle]
@@ -29,11 +23,5 @@ pub extern "C" fn mesh_dump_frame(frame: &[u8], out: &mut [u8], length: &mut u64
     ensures out { λ _. ⌜ now (out .exit) ≡ outOf (bytes (frameText (now (frame .entry)))) (now (out .entry)) ⌝ }
     ensures length { λ _. ⌜ now (length .exit) ≡ leftBy asItIs (now (length .entry)) (writtenSays (answerOf (bytes (frameText (now (frame .entry)))) (now (out .entry)))) ⌝ }
 {
-    match dump_frame(frame, out) {
-        Written::Refused(n) => n,
-        Written::Bytes(n) => {
-            *length = n as u64;
-            0
-        }
-    }
+    put_length(dump_frame(frame, out), length)
 }

@@ -1,5 +1,5 @@
 -- `mesh_c::item::mesh_heartbeat_write` meets its contract. Assumes nothing.
-use mathlib.Core.Path.{sym, ap, _∙_}
+use mathlib.Core.Path.{ap, _∙_}
 use denote.Ref.{now}
 use Rattle.base.specs.Answers.{numberIn, leftBy, writtenSays}
 use Rattle.base.specs.declared.Written.{Written}
@@ -9,16 +9,11 @@ use Rattle.mesh_c.proofs.item.mesh_heartbeat_write.Statement.{statement
 use Rattle.mesh_c.proofs.item.mesh_heartbeat_write.Tie as tie
 
 returns : tie.Need-returns
-returns c = let a = c .before .before .before .before .before .before .before .before .before .args in
-    let w = c .before .before .before .before .before .write-path .ensures in
-    let e = sym (c .before .n .given .1) ∙ w .0 in
-    (ap (λ (x : Written). numberIn (writtenSays x)) e, (w .1, ap (λ (x : Written). leftBy asItIs (now (a .length)) (writtenSays x)) e))
-
-returns-2 : tie.Need-returns-2
-returns-2 c = let a = c .before .before .before .before .before .before .before .before .before .args in
-    let w = c .before .before .before .before .before .write-path .ensures in
-    let e = sym (c .before .n2 .given .1) ∙ w .0 in
-    (ap (λ (x : Written). numberIn (writtenSays x)) e, (w .1, ap (λ (x : Written). leftBy asItIs (now (a .length)) (writtenSays x)) e))
+returns c =
+    let a = c .before .before .before .before .before .before .before .before .args in
+    let w = c .put-length .ensures in
+    let s = c .before .before .before .before .write-path .ensures in
+    (w .0 ∙ ap (λ (x : Written). numberIn (writtenSays x)) (s .0), (s .1, w .1 ∙ ap (λ (x : Written). leftBy asItIs (now (a .length)) (writtenSays x)) (s .0)))
 
 pub mesh-heartbeat-write-spec : {M : Type 1} → statement M
-mesh-heartbeat-write-spec = tie.close (tie.spec (λ c κs. search needs) (λ c. search needs) (λ c. search needs) (λ c. search needs) returns (λ c. search needs) returns-2)
+mesh-heartbeat-write-spec = tie.close (tie.spec (λ c κs. search needs) (λ c κs. search needs) (λ c. search needs) returns)

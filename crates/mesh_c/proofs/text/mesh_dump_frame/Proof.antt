@@ -1,6 +1,6 @@
 -- `mesh_c::text::mesh_dump_frame` meets its contract. Assumes nothing.
 use lib.ListN.{length}
-use mathlib.Core.Path.{sym, ap, _∙_}
+use mathlib.Core.Path.{ap, _∙_}
 use denote.Ref.{now}
 use Rattle.base.specs.Answers.{numberIn, leftBy, writtenSays}
 use Rattle.base.specs.declared.Written.{Written}
@@ -11,28 +11,14 @@ use Rattle.mesh_c.proofs.text.mesh_dump_frame.Statement.{statement}
 use Rattle.mesh_c.proofs.text.mesh_dump_frame.Tie as tie
 
 same-length : tie.Need-same-length
-same-length c = ap length (c .before .before .before .before .before .dump-frame .ensures .1) ∙ out-length _ _
+same-length c = ap length (c .before .before .before .before .dump-frame .ensures .1) ∙ out-length _ _
 
 returns : tie.Need-returns
 returns c =
-    let a = c .before .before .before .before .before .before .before .before .before .args in
-    let w = c .before .before .before .before .before .dump-frame .ensures in
-    let e = sym (c .before .n .given .1) ∙ w .0 in (
-      ap (λ (r : Written). numberIn (writtenSays r)) e,
-      (w .1, ap (λ (r : Written). leftBy asItIs (now (a .length)) (writtenSays r)) e),
-    )
-
-same-length-2 : tie.Need-same-length-2
-same-length-2 c = ap length (c .before .before .before .before .before .dump-frame .ensures .1) ∙ out-length _ _
-
-returns-2 : tie.Need-returns-2
-returns-2 c =
-    let a = c .before .before .before .before .before .before .before .before .before .args in
-    let w = c .before .before .before .before .before .dump-frame .ensures in
-    let e = sym (c .before .n2 .given .1) ∙ w .0 in (
-      ap (λ (r : Written). numberIn (writtenSays r)) e,
-      (w .1, ap (λ (r : Written). leftBy asItIs (now (a .length)) (writtenSays r)) e),
-    )
+    let a = c .before .before .before .before .before .before .before .before .args in
+    let w = c .put-length .ensures in
+    let s = c .before .before .before .before .dump-frame .ensures in
+    (w .0 ∙ ap (λ (x : Written). numberIn (writtenSays x)) (s .0), (s .1, w .1 ∙ ap (λ (x : Written). leftBy asItIs (now (a .length)) (writtenSays x)) (s .0)))
 
 pub mesh-dump-frame-spec : {M : Type 1} → statement M
-mesh-dump-frame-spec = tie.close (tie.spec (λ c κs. search needs) (λ c. search needs) (λ c. search needs) same-length returns same-length-2 returns-2)
+mesh-dump-frame-spec = tie.close (tie.spec (λ c κs. search needs) (λ c κs. search needs) same-length returns)
