@@ -1,5 +1,5 @@
-// Runs the published vectors of FIPS 197, SP 800-38A and RFC 4493, and document 01's rules of keys, its examples P1 to P12 and the limits of
-// a cache, and prints a line for each. The file stdout beside src/ has the published values; the gate compares.
+// Runs the published vectors of FIPS 197, SP 800-38A and RFC 4493, and document 01's rules of keys, its examples P1 to P12, the limits of
+// a cache and hop edits of one frame, and prints a line for each. The file stdout beside src/ has the published values; the gate compares.
 ghost use Prim.Native.Nat.{_≤_};
 use aes128::Aes128Key;
 use aes128::encrypt_block;
@@ -22,12 +22,17 @@ use fields::PayloadType;
 use fields::UplinkMetadata;
 use fields::decode_freq;
 use fields::encode_freq;
+use hops::set_hop_count;
 use items::Command;
 use items::Event;
 use items::ItemRead;
 use items::Opening;
 use items::OpeningRead;
 use libc::STDOUT_FILENO;
+use mic::Validated;
+use mic::validate_mic;
+use packets::MeshPacket;
+use packets::MeshRead;
 use wire::part;
 use wire::read_hex;
 use wire::write_hex;
@@ -567,6 +572,61 @@ fn ids() {
     say(b"\n");
 }
 
+// ---- hop edits, in the received buffer
+fn validated(v: Validated) {
+    match v {
+        Validated::Valid => say(b" valid\n"),
+        Validated::Invalid => say(b" not valid\n"),
+        Validated::Refused(n) => number(b" ", n),
+    }
+}
+
+fn valid(frame: &[u8], key: Aes128Key) {
+    match MeshPacket::from_slice(frame) {
+        MeshRead::Refused(n) => number(b" ", n),
+        MeshRead::Mesh(p) => validated(validate_mic(
+            p,
+            key,
+            frame,
+            b"",
+            &[[0, 0]],
+            &[[0, 0]],
+            &[0],
+            &[0],
+            &[0],
+        )),
+    }
+}
+
+// One edit; the frame then, and whether it validates.
+fn edit(label: &[u8], frame: &mut [u8], hop_count: u8) {
+    let key = key_of(b"000102030405060708090a0b0c0d0e0f");
+    say(label);
+    match set_hop_count(frame, hop_count, key) {
+        Checked::Accepted => say(b"accepted "),
+        Checked::Refused(n) => {
+            plain(b"refused ", n as u64);
+            say(b" ");
+        }
+    }
+    let mut text = [0u8; 64];
+    write_hex(frame, &mut text, 0);
+    say(part(&text, 0, 2 * frame.len()));
+    valid(frame, key);
+}
+
+// One behind the other in one buffer: a refused edit changes no byte. The MICs are OpenSSL's.
+fn edits() {
+    let mut frame = [0u8; 15];
+    read_hex(b"e0123550c7020a0b0c0d40f42fc987", &mut frame);
+    edit(b"hop 0                    ", &mut frame, 0);
+    edit(b"hop 8                    ", &mut frame, 8);
+    edit(b"hop 9                    ", &mut frame, 9);
+    edit(b"hop 2                    ", &mut frame, 2);
+    let mut lora = [0x40u8];
+    edit(b"hop 1 of another frame   ", &mut lora, 1);
+}
+
 fn main() {
     fips197();
     sp800_38a();
@@ -589,4 +649,5 @@ fn main() {
     size(b"cache of 65             ", 65);
     size(b"cache of 1              ", 1);
     ids();
+    edits();
 }
