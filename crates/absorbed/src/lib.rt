@@ -78,8 +78,8 @@ pub fn absorb_kept(m: Mac, e: &Cipher, is_event: bool, payload: &[u8]) -> Mac
             ItemRead::Skipped { item: _, next } => {
                 p = next;
             }
-            ItemRead::Cut(_) => return a,
-            ItemRead::End => return a,
+            ItemRead::Cut { tail: _, next: _ } => return a,
+            ItemRead::End { next: _ } => return a,
             ItemRead::Refused(_) => return a,
         }
     }

@@ -16,6 +16,8 @@ use Rattle.bodies.proofs.body.Body.decrypt.Kinds as body-decrypt-kinds
 use Rattle.bodies.proofs.body.Body.decrypt.Reads as body-decrypt-reads
 use Rattle.bodies.proofs.body.Body.decode.Kinds as body-decode-kinds
 use Rattle.bodies.proofs.body.Body.decode.Reads as body-decode-reads
+use Rattle.bodies.proofs.body.Body.kinds_refusal.Kinds as body-kinds-refusal-kinds
+use Rattle.bodies.proofs.body.Body.kinds_refusal.Reads as body-kinds-refusal-reads
 use Rattle.bodies.proofs.body.Body.refusal.Kinds as body-refusal-kinds
 use Rattle.bodies.proofs.body.Body.refusal.Reads as body-refusal-reads
 use Rattle.bodies.proofs.body.Body.size.Kinds as body-size-kinds
@@ -40,6 +42,9 @@ body-decrypt κs a x y v w p q = (p .0 ∙ sym (q .0), ap (λ (l : List ℕ). (t
 
 body-decode : Fixed 1 body-decode-kinds.ps body-decode-kinds.r body-decode-reads.Post
 body-decode κs a x y v w p q = (p ∙ sym q, refl)
+
+body-kinds-refusal : Fixed 2 body-kinds-refusal-kinds.ps body-kinds-refusal-kinds.r body-kinds-refusal-reads.Post
+body-kinds-refusal κs a x y v w p q = (p ∙ sym q, refl)
 
 body-refusal : Fixed 6 body-refusal-kinds.ps body-refusal-kinds.r body-refusal-reads.Post
 body-refusal κs a x y v w p q = (p ∙ sym q, refl)

@@ -9,7 +9,7 @@ use Rattle.base.specs.Pick.{pick}
 use Rattle.base.specs.Answers.{Frame, bytes, unlessRefused}
 use Rattle.wire.specs.Run.{runRefusal, runBytes}
 use Rattle.kept.specs.Kept.{openBytes}
-use Rattle.composed.specs.Composed.{Lists, verdictOf, composedBytes}
+use Rattle.composed.specs.Composed.{Lists, kindsRefusal, verdictOf, composedBytes}
 use Rattle.bodies.specs.declared.body.Held.{Held}
 use Rattle.bodies.specs.declared.body.Held.the-variants.{Frame as InFrame, Work as InWork}
 use Rattle.bodies.specs.declared.body.Body.{Body}
@@ -44,7 +44,14 @@ work l = l .lists .src
 abbrev pub lent : List ℕ → List ℕ → List (List ℕ) → List (List ℕ) → List ℕ → List ℤ → List ℤ → Lent
 lent f w kinds spans ids rssis snrs = record { frame = f; lists = record { kinds = kinds; spans = spans; ids = ids; rssis = rssis; snrs = snrs; src = w } }
 
--- the first refusal, 0 for none: 45, the first bad path entry, 19, 20
+-- 29 of composed items, by their kinds alone
+unfoldable pub bodyKinds : Bool → List (List ℕ) → List (List ℕ) → Body → ℕ
+bodyKinds ev kinds spans Empty = 0
+bodyKinds ev kinds spans (Sealed r) = 0
+bodyKinds ev kinds spans (Open h r) = 0
+bodyKinds ev kinds spans (Items n) = kindsRefusal ev kinds spans n
+
+-- the first refusal, 0 for none: 29, 45, the first bad path entry, 19, 20
 unfoldable pub bodyRefusal : Bool → Lent → Body → ℕ
 bodyRefusal ev l Empty = 0
 bodyRefusal ev l (Sealed r) = runRefusal (length (l .frame)) r

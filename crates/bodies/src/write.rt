@@ -3,10 +3,11 @@ ghost use mathlib.Core.Path.{_≡_};
 ghost use lib.ListN.{length};
 ghost use Rattle.wire.specs.Lay.{put};
 ghost use Rattle.composed.specs.Composed.{capped};
-ghost use Rattle.bodies.specs.Body.{lent, bodyRefusal, bodyBytes};
+ghost use Rattle.bodies.specs.Body.{lent, bodyKinds, bodyRefusal, bodyBytes};
 use crate::body::Body;
 use crate::body::held_in;
 use base::Limit;
+use composed::kinds_refusal;
 use composed::put_composed;
 use composed::verdict;
 use items::count_items;
@@ -24,7 +25,19 @@ fn cap(n: usize) -> usize
 }
 
 impl Body {
-    // 45, the first bad path entry, 19 or 20, and otherwise 0.
+    // 29 where a composed item's kind is none, or is no value in a command; otherwise 0.
+    pub fn kinds_refusal(self, is_event: bool, kinds: &[[u8; 2]], spans: &[[u32; 2]]) -> u8
+        ensures { λ r. ⌜ r ≡ bodyKinds «is_event» (now (kinds .entry)) (now (spans .entry)) self ⌝ }
+    {
+        match self {
+            Body::Empty => 0,
+            Body::Sealed(_) => 0,
+            Body::Open { held: _, run: _ } => 0,
+            Body::Items(n) => kinds_refusal(is_event, n, kinds, spans),
+        }
+    }
+
+    // 29, 45, the first bad path entry, 19 or 20, and otherwise 0.
     pub fn refusal<'a>(
         self,
         is_event: bool,

@@ -13,7 +13,7 @@ use Rattle.wire.specs.Run.{runRefusal, runAt}
 use Rattle.wire.specs.declared.run.Run.{Run}
 use Rattle.fields.specs.Path.{badEntry}
 use Rattle.items.specs.Items.{badBeat}
-use Rattle.composed.specs.Composed.{Lists, paths, pathRun, isPath, itemCount, itemsIn, outsideOf, badPath, longOf, unevenOf, verdictOf, capped}
+use Rattle.composed.specs.Composed.{Lists, paths, pathRun, isPath, itemCount, itemsIn, outsideOf, badPath, longOf, unevenOf, kindsRefusal, verdictOf, capped}
 use Rattle.composed.specs.Passes.{reachFor, faultOf, totalOf}
 use Rattle.composed.specs.declared.Composed.{Composed}
 use Rattle.composed.specs.declared.Total.the-variants.{Sum, Over}
@@ -51,28 +51,38 @@ or-none : (a : ℕ) → orElse a 0 ≡ a
 or-none zero = refl
 or-none (suc a) = refl
 
-module _ (ev : Bool) (l : Lists) (n : ℕ) where
-  pub few : itemCount l < n → outside ≡ verdictOf ev l n
-  unfolding verdictOf
-  few h = simp (lt-ltb (itemCount l) n h)
+-- what one pass finds, by its number
+abbrev pub found : Bool → Lists → ℕ → ℕ → ℕ
+found ev l n pass = firstOf (faultOf pass ev l) (itemsIn l n)
 
-  -- what one pass finds, by its number; and the four, one after another
-  abbrev pub found : ℕ → ℕ
-  found pass = firstOf (faultOf pass ev l) (itemsIn l n)
+pub next-pass : (ev : Bool) (l : Lists) (n pass r : ℕ) → pass < 4 → r ≡ found ev l n pass → r ≡ 0 → Passed (found ev l n) (from 4 0 (λ p. p)) pass
+    → Passed (found ev l n) (from 4 0 (λ p. p)) (pass + 1)
+next-pass ev l n pass r k e z w = passed-more (found ev l n) (from 4 0 (λ p. p)) pass 0 k (ap (found ev l n) (from-get 4 (λ p. p) 0 pass k) ∙ sym e ∙ z) w
 
-  by-pass : n ≤ itemCount l → firstOf found (from 4 0 (λ p. p)) ≡ verdictOf ev l n
-  unfolding verdictOf faultOf firstOf
-  by-pass h = simp (le-ltb (itemCount l) n h, or-none)
+or-some : (a b : ℕ) → (a ≡ 0 → ⊥) → a ≡ orElse a b
+or-some zero b h = absurd (h refl)
+or-some (suc a) b h = refl
 
-  module _ (h : n ≤ itemCount l) (pass : ℕ) where
-    pub next-pass : (r : ℕ) → pass < 4 → r ≡ found pass → r ≡ 0 → Passed found (from 4 0 (λ p. p)) pass → Passed found (from 4 0 (λ p. p)) (pass + 1)
-    next-pass r k e z w = passed-more found (from 4 0 (λ p. p)) pass 0 k (ap found (from-get 4 (λ p. p) 0 pass k) ∙ sym e ∙ z) w
+-- the kinds come first
+pub strange : (ev : Bool) (l : Lists) (n k : ℕ) → k ≡ kindsRefusal ev (l .kinds) (l .spans) n → (k ≡ 0 → ⊥) → k ≡ verdictOf ev l n
+unfolding verdictOf
+strange ev l n k e h = e ∙ or-some (kindsRefusal ev (l .kinds) (l .spans) n) _ (λ z. h (e ∙ z))
 
-    pub pass-stops : (r : ℕ) → pass < 4 → r ≡ found pass → (r ≡ 0 → ⊥) → Passed found (from 4 0 (λ p. p)) pass → r ≡ verdictOf ev l n
-    pass-stops r k e z w = passed-stop found (from 4 0 (λ p. p)) pass 0 r k (ap found (from-get 4 (λ p. p) 0 pass k) ∙ sym e) z w ∙ by-pass h
+-- then whether there are as many, and the four passes one after another
+pub few : (ev : Bool) (l : Lists) (n k : ℕ) → k ≡ kindsRefusal ev (l .kinds) (l .spans) n → k ≡ 0 → itemCount l < n → outside ≡ verdictOf ev l n
+unfolding verdictOf
+few ev l n k e z h = rw (sym e ∙ z) (simp (lt-ltb (itemCount l) n h))
 
-    pub passes-all : 4 ≤ pass → Passed found (from 4 0 (λ p. p)) pass → 0 ≡ verdictOf ev l n
-    passes-all k w = passed-all found (from 4 0 (λ p. p)) pass k w ∙ by-pass h
+by-pass : (ev : Bool) (l : Lists) (n k : ℕ) → k ≡ kindsRefusal ev (l .kinds) (l .spans) n → k ≡ 0 → n ≤ itemCount l → firstOf (found ev l n) (from 4 0 (λ p. p)) ≡ verdictOf ev l n
+unfolding verdictOf faultOf firstOf
+by-pass ev l n k e z h = rw (sym e ∙ z) (simp (le-ltb (itemCount l) n h, or-none))
+
+module _ (ev : Bool) (l : Lists) (n k : ℕ) (e : k ≡ kindsRefusal ev (l .kinds) (l .spans) n) (z : k ≡ 0) (h : n ≤ itemCount l) (pass : ℕ) where
+  pub pass-stops : (r : ℕ) → pass < 4 → r ≡ found ev l n pass → (r ≡ 0 → ⊥) → Passed (found ev l n) (from 4 0 (λ p. p)) pass → r ≡ verdictOf ev l n
+  pass-stops r j q y w = passed-stop (found ev l n) (from 4 0 (λ p. p)) pass 0 r j (ap (found ev l n) (from-get 4 (λ p. p) 0 pass j) ∙ sym q) y w ∙ by-pass ev l n k e z h
+
+  pub passes-all : 4 ≤ pass → Passed (found ev l n) (from 4 0 (λ p. p)) pass → 0 ≡ verdictOf ev l n
+  passes-all j w = passed-all (found ev l n) (from 4 0 (λ p. p)) pass j w ∙ by-pass ev l n k e z h
 
 -- ---- the sum
 

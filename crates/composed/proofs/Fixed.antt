@@ -17,6 +17,8 @@ use Rattle.composed.proofs.item_at.Kinds as item-at-kinds
 use Rattle.composed.proofs.item_at.Reads as item-at-reads
 use Rattle.composed.proofs.is_path.Kinds as is-path-kinds
 use Rattle.composed.proofs.is_path.Reads as is-path-reads
+use Rattle.composed.proofs.kinds_refusal.Kinds as kinds-refusal-kinds
+use Rattle.composed.proofs.kinds_refusal.Reads as kinds-refusal-reads
 use Rattle.composed.proofs.verdict.Kinds as verdict-kinds
 use Rattle.composed.proofs.verdict.Reads as verdict-reads
 use Rattle.composed.proofs.size.Kinds as size-kinds
@@ -44,6 +46,9 @@ item-at κs a x y v w p q = (p ∙ sym q, refl)
 
 is-path : Fixed 0 is-path-kinds.ps is-path-kinds.r is-path-reads.Post
 is-path κs a x y v w p q = (p ∙ sym q, refl)
+
+kinds-refusal : Fixed 2 kinds-refusal-kinds.ps kinds-refusal-kinds.r kinds-refusal-reads.Post
+kinds-refusal κs a x y v w p q = (p ∙ sym q, refl)
 
 verdict : Fixed 6 verdict-kinds.ps verdict-kinds.r verdict-reads.Post
 verdict κs a x y v w p q = (p ∙ sym q, refl)

@@ -17,7 +17,7 @@ use Rattle.wire.specs.Part.{partOf}
 use Rattle.fields.specs.Path.{sixOf}
 use Rattle.items.specs.Items.{isBeat}
 use Rattle.kept.specs.Kept.{fixed}
-use Rattle.composed.specs.Composed.{Lists, pathCount, pathRun, itemCount, itemIn, itemsIn, isPath, outsideOf, badPath, longOf, unevenOf, verdictOf, valueOf, composedBytes, capped}
+use Rattle.composed.specs.Composed.{Lists, lists, pathCount, pathRun, itemCount, itemIn, itemsIn, isPath, badKind, outsideOf, badPath, longOf, unevenOf, kindsRefusal, verdictOf, valueOf, composedBytes, capped}
 use Rattle.composed.specs.declared.Composed.{Composed}
 use Rattle.composed.proofs.Runs.{held-le, part-length, path-length}
 
@@ -28,8 +28,15 @@ module _ (ev : Bool) (l : Lists) where
   no-items = let e : min 0 (itemCount l) ≡ 0 = omega arith in ap (λ (n : ℕ). from n 0 (itemIn l)) e
 
   pub none-composed : (verdictOf ev l 0 ≡ 0) × (composedBytes ev l 0 ≡ [])
-  unfolding verdictOf composedBytes firstOf joined
+  unfolding verdictOf kindsRefusal composedBytes firstOf joined
   none-composed = (rw (no-items, le-ltb (itemCount l) 0 (omega arith)), rw no-items)
+
+-- no lists have no kind that is refused
+pub no-kinds : (ev : Bool) (n : ℕ) → kindsRefusal ev [] [] n ≡ 0
+unfolding kindsRefusal firstOf
+no-kinds ev n =
+    let e : min n (itemCount (lists [] [] [] [] [] [])) ≡ 0 = omega arith in
+    ap (λ (m : ℕ). firstOf (badKind ev) (from m 0 (itemIn (lists [] [] [] [] [] [])))) e
 
 -- ---- a verdict of 0
 
@@ -39,27 +46,34 @@ none-of f [] z e i h = absurd (not-suc-le-zero h)
 none-of f (x ∷ xs) z e zero h = or-zero (f x) (firstOf f xs) e .0
 none-of f (x ∷ xs) z e (suc i) h = none-of f xs z (or-zero (f x) (firstOf f xs) e .1) i (le-of-suc-le-suc h)
 
+-- which the kinds alone refuse where they do
+pub known-kinds : (ev : Bool) (l : Lists) (n : ℕ) → verdictOf ev l n ≡ 0 → kindsRefusal ev (l .kinds) (l .spans) n ≡ 0
+unfolding verdictOf
+known-kinds ev l n e = or-zero _ _ e .0
+
 -- no pass finds anything in an item
 pub record Fine (ev : Bool) (l : Lists) (it : Composed) : Type 0 where
+  pub known : badKind ev it ≡ 0
   pub lies-inside : outsideOf ev l it ≡ 0
   pub good-path : badPath ev l it ≡ 0
   pub not-long : longOf ev it ≡ 0
   pub not-uneven : unevenOf ev it ≡ 0
 
 module _ (ev : Bool) (l : Lists) (n : ℕ) (e : verdictOf ev l n ≡ 0) where
-  parts : (pick (ltb (itemCount l) n) outside 0 ≡ 0) × (firstOf (outsideOf ev l) (itemsIn l n) ≡ 0) × (firstOf (badPath ev l) (itemsIn l n) ≡ 0)
+  parts : (firstOf (badKind ev) (itemsIn l n) ≡ 0) × (pick (ltb (itemCount l) n) outside 0 ≡ 0) × (firstOf (outsideOf ev l) (itemsIn l n) ≡ 0) × (firstOf (badPath ev l) (itemsIn l n) ≡ 0)
       × (firstOf (longOf ev) (itemsIn l n) ≡ 0) × (firstOf (unevenOf ev) (itemsIn l n) ≡ 0)
-  unfolding verdictOf
+  unfolding verdictOf kindsRefusal
   parts =
-      let a = or-zero _ _ e in
+      let k = or-zero _ _ e in
+      let a = or-zero _ _ (k .1) in
       let b = or-zero _ _ (a .1) in
       let c = or-zero _ _ (b .1) in
       let d = or-zero _ _ (c .1) in
-      (a .0, b .0, c .0, d .0, d .1)
+      (k .0, a .0, b .0, c .0, d .0, d .1)
 
   -- all n of them are there
   pub there : n ≤ itemCount l
-  there = ltb-false (itemCount l) n (passed (ltb (itemCount l) n) 44 0 (parts .0) .0)
+  there = ltb-false (itemCount l) n (passed (ltb (itemCount l) n) 44 0 (parts .1) .0)
 
   the-item : (i : ℕ) → i < n → getD (itemsIn l n) i (itemIn l i) ≡ itemIn l i
   the-item i h = let t = there in from-get (min n (itemCount l)) (itemIn l) (itemIn l i) i (omega arith)
@@ -73,10 +87,11 @@ module _ (ev : Bool) (l : Lists) (n : ℕ) (e : verdictOf ev l n ≡ 0) where
   pub all-fine : (i : ℕ) → i < n → Fine ev l (itemIn l i)
   all-fine i h =
       record {
-        lies-inside = zero-at (outsideOf ev l) (parts .1) i h;
-        good-path = zero-at (badPath ev l) (parts .2) i h;
-        not-long = zero-at (longOf ev) (parts .3) i h;
-        not-uneven = zero-at (unevenOf ev) (parts .4) i h;
+        known = zero-at (badKind ev) (parts .0) i h;
+        lies-inside = zero-at (outsideOf ev l) (parts .2) i h;
+        good-path = zero-at (badPath ev l) (parts .3) i h;
+        not-long = zero-at (longOf ev) (parts .4) i h;
+        not-uneven = zero-at (unevenOf ev) (parts .5) i h;
       }
 
 -- what is not too long has a value of at most 255 bytes, so that its length byte is its length

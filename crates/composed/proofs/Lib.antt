@@ -1,5 +1,6 @@
 pub mod Faults
 pub mod Fixed
 pub mod Laws
+pub mod Again
 pub mod Loops
 pub mod Runs

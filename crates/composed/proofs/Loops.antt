@@ -161,13 +161,19 @@ module _ (ev : Bool) (count : ℕ) (l : Lists) where
       the-item : getD (itemsIn l count) i it ≡ it
       the-item = from-get (min count (itemCount l)) (itemIn l) it i (rw (← en) h) ∙ sym e
 
+      pub each-more : (f : Composed → ℕ) (r : ℕ) → r ≡ f it → r ≡ 0 → Passed f (itemsIn l count) i → Passed f (itemsIn l count) (i + 1)
+      each-more f r q z w = passed-more f (itemsIn l count) i it in-items (ap f the-item ∙ sym q ∙ z) w
+
+      pub each-stop : (f : Composed → ℕ) (r : ℕ) → r ≡ f it → (r ≡ 0 → ⊥) → Passed f (itemsIn l count) i → r ≡ firstOf f (itemsIn l count)
+      each-stop f r q z w = passed-stop f (itemsIn l count) i it r in-items (ap f the-item ∙ sym q) z w
+
       pub pass-more : (pass r : ℕ) → r ≡ faultOf pass ev (lent l) it → r ≡ 0 → Passed (faultOf pass ev l) (itemsIn l count) i
           → Passed (faultOf pass ev l) (itemsIn l count) (i + 1)
-      pass-more pass r q z w = passed-more (faultOf pass ev l) (itemsIn l count) i it in-items (ap (faultOf pass ev l) the-item ∙ sym (q ∙ same-fault pass it) ∙ z) w
+      pass-more pass r q z w = each-more (faultOf pass ev l) r (q ∙ same-fault pass it) z w
 
       pub pass-stop : (pass r : ℕ) → r ≡ faultOf pass ev (lent l) it → (r ≡ 0 → ⊥) → Passed (faultOf pass ev l) (itemsIn l count) i
           → r ≡ firstOf (faultOf pass ev l) (itemsIn l count)
-      pass-stop pass r q z w = passed-stop (faultOf pass ev l) (itemsIn l count) i it r in-items (ap (faultOf pass ev l) the-item ∙ sym (q ∙ same-fault pass it)) z w
+      pass-stop pass r q z w = each-stop (faultOf pass ev l) r (q ∙ same-fault pass it) z w
 
       pub ahead : joined (itemWire ev l) (drop i (itemsIn l count)) ≡ itemWire ev l it ++ joined (itemWire ev l) (drop (i + 1) (itemsIn l count))
       ahead = joined-more (itemWire ev l) (itemsIn l count) i it in-items ∙ ap (λ (x : Composed). itemWire ev l x ++ joined (itemWire ev l) (drop (i + 1) (itemsIn l count))) the-item
@@ -215,9 +221,8 @@ module _ (ev : Bool) (count : ℕ) (l : Lists) where
     pub none-left : (i : ℕ) → n ≤ i → joined (itemWire ev l) (drop i (itemsIn l count)) ≡ []
     none-left i h = joined-all (itemWire ev l) (itemsIn l count) i (rw items-count h)
 
-    pub pass-all : (pass i : ℕ) → n ≤ i → Passed (faultOf pass ev l) (itemsIn l count) i
-        → 0 ≡ firstOf (faultOf pass ev l) (itemsIn l count)
-    pass-all pass i h w = passed-all (faultOf pass ev l) (itemsIn l count) i (rw items-count h) w
+    pub each-all : (f : Composed → ℕ) (i : ℕ) → n ≤ i → Passed f (itemsIn l count) i → 0 ≡ firstOf f (itemsIn l count)
+    each-all f i h w = passed-all f (itemsIn l count) i (rw items-count h) w
 
     pub sum-all : (most i sum : ℕ) → n ≤ i → Summing (itemWire ev l) (itemsIn l count) most i sum
         → Sum sum ≡ totalOf most (length (composedBytes ev l count))

@@ -17,10 +17,10 @@ use Rattle.base.specs.Answers.{Frame, bytes, refused, checkedOf, frameNumber}
 use Rattle.base.specs.declared.Checked.the-variants.{Accepted, Refused as No}
 use Rattle.base.proofs.Lists.{from-length, from-at, imap-length}
 use Rattle.wire.specs.Number.{beBytes}
-use Rattle.wire.specs.Part.{reachOf, reachNumber, partOf}
+use Rattle.wire.specs.Part.{partOf}
 use Rattle.wire.specs.Run.{runRefusal, runAt}
 use Rattle.wire.specs.declared.run.Run.{Run}
-use Rattle.wire.specs.declared.parts.Reach.the-variants.{Inside, Refused}
+use Rattle.wire.proofs.Laws.Part.{fits as run-fits, part-length as length-of-part}
 use Rattle.fields.specs.Signal.{rssiByte, snrByte}
 use Rattle.fields.specs.Meta.{afterRssi}
 use Rattle.fields.specs.Path.{pathWire, pathBytes, badEntry, sixOf}
@@ -29,7 +29,7 @@ use Rattle.fields.specs.declared.path.PathBytes.{PathBytes}
 use Rattle.fields.specs.declared.signal.SignalByte.{SignalByte}
 use Rattle.fields.specs.declared.signal.SignalByte.the-variants.{Byte, Refused as NoByte}
 use Rattle.kept.specs.Kept.{headed, fixed, itemBytes}
-use Rattle.composed.specs.Composed.{Lists, lists, paths, pathCount, pathAt, pathRun, itemIn, isPath, valueOf, itemWire}
+use Rattle.composed.specs.Composed.{Lists, lists, paths, pathCount, pathAt, pathRun, tagOf, itemIn, isPath, valueOf, itemWire}
 use Rattle.composed.specs.declared.Composed.{Composed}
 use Rattle.items.specs.Items.{isBeat, badBeat}
 use Rattle.composed.specs.Passes.{heldOf, pairAt}
@@ -52,26 +52,16 @@ module _ (l : List (List ℕ)) (i : ℕ) where
       go true e = refl
       go false e = zeros k ∙ sym (ap (λ (x : List ℕ). getD x k 0) (List·getD-eq-default l [] (ltb-false i (length l) e)))
 
-pub item-is : (kinds spans : List (List ℕ)) (i : ℕ) (a b : List ℕ) → a ≡ pairAt kinds i → b ≡ pairAt spans i
-    → record { kind = getD a 0 0; tag = getD a 1 0; place = getD b 0 0; len = getD b 1 0 } ≡ itemIn (lists kinds spans [] [] [] []) i
-item-is kinds spans i a b p q = rw (p, q, pair-at kinds i 0, pair-at kinds i 1, pair-at spans i 0, pair-at spans i 1)
+pub item-is : (kinds spans : List (List ℕ)) (i : ℕ) (a b : List ℕ) (t : ℕ) → a ≡ pairAt kinds i → b ≡ pairAt spans i → t ≡ tagOf (getD a 0 0) (getD a 1 0)
+    → record { kind = getD a 0 0; tag = t; place = getD b 0 0; len = getD b 1 0 } ≡ itemIn (lists kinds spans [] [] [] []) i
+item-is kinds spans i a b t p q e = rw (e, p, q, pair-at kinds i 0, pair-at kinds i 1, pair-at spans i 0, pair-at spans i 1)
 
 -- ---- a run in a list of n
 
 module _ (n place len : ℕ) where
-  inside : (a b e : Bool) → ltb n place ≡ a → ltb (n - place) len ≡ b → eqb len 0 ≡ e
-      → pick e 0 (reachNumber (pick a (Refused 45) (pick b (Refused 45) Inside))) ≡ 0 → 0 < len → place + len ≤ n
-  inside a b true p q r z h = let k : len ≡ 0 = eqb-true len 0 r in omega arith
-  inside true b false p q r z h = absurd (omega arith)
-  inside false true false p q r z h = absurd (omega arith)
-  inside false false false p q r z h =
-      let k : place ≤ n = ltb-false n place p in
-      let m : len ≤ n - place = ltb-false (n - place) len q in
-      omega arith
-
   fits : runRefusal n (runAt place len) ≡ 0 → 0 < len → place + len ≤ n
-  unfolding runRefusal reachOf
-  fits e h = inside (ltb n place) (ltb (n - place) len) (eqb len 0) refl refl refl e h
+  unfolding runRefusal
+  fits e h = run-fits n place len e h
 
   -- what is held lies in the list
   pub held-in : (i : ℕ) → i < heldOf n place len → place + i < n
@@ -92,20 +82,9 @@ module _ (n place len : ℕ) where
 
 -- the part of a list is what is held of the run
 module _ (s : List ℕ) (place len : ℕ) where
-  part-is : (a b e : Bool) → ltb (length s) place ≡ a → ltb (length s - place) len ≡ b → eqb len 0 ≡ e
-      → length (pick a [] (pick b [] (take len (drop place s)))) ≡ pick (eqb (pick e 0 (reachNumber (pick a (Refused 45) (pick b (Refused 45) Inside)))) 0) len 0
-  part-is true b true p q r = sym (eqb-true len 0 r)
-  part-is true b false p q r = refl
-  part-is false true true p q r = sym (eqb-true len 0 r)
-  part-is false true false p q r = refl
-  part-is false false true p q r = let k : len ≡ 0 = eqb-true len 0 r in rw k
-  part-is false false false p q r =
-      let m : len ≤ length s - place = ltb-false (length s - place) len q in
-      length-take-le len (drop place s) (simp length-drop m)
-
   pub part-length : length (partOf s place len) ≡ heldOf (length s) place len
-  unfolding partOf heldOf runRefusal reachOf
-  part-length = part-is (ltb (length s) place) (ltb (length s - place) len) (eqb len 0) refl refl refl
+  unfolding heldOf runRefusal
+  part-length = length-of-part s place len
 
 -- ---- a path's entries
 

@@ -1,19 +1,20 @@
 -- Items that a caller composes, in lent lists: the first refusal over all of them, pass by pass, and their bytes. Assumes nothing.
 use Prim.Native.Nat.{ℕ, _+_, min}
-use mathlib.Core.Bool.{Bool, false, not}
-use mathlib.Core.List.{List, []}
+use mathlib.Core.Bool.{Bool, false}
+use mathlib.Core.List.{List, [], _∷_, map}
 use lib.Dec.{ltb, eqb}
 use lib.IntN.{ℤ, pos}
 use lib.ListN.{length, getD}
 use Rattle.base.specs.Pick.{pick}
 use Rattle.base.specs.Lists.{from, imap, orElse, firstOf, joined}
-use Rattle.base.specs.Numbers.{itemLong, heartbeatLength, outside, itemMost, pathMost, frameMost}
+use Rattle.base.specs.Numbers.{typeLarge, itemLong, heartbeatLength, outside, itemMost, pathMost, frameMost}
 use Rattle.base.specs.Answers.{Frame, bytes, unlessRefused}
 use Rattle.wire.specs.Part.{partOf}
 use Rattle.wire.specs.Run.{runAt, runRefusal}
 use Rattle.fields.specs.Path.{badEntry, sixOf}
 use Rattle.fields.specs.declared.path.RelayPath.{RelayPath}
-use Rattle.items.specs.Items.{isBeat, badBeat}
+use Rattle.items.specs.Items.{isBeat, badBeat, heartbeatKind, proprietaryKind, pathKind, kindCode, listedItems}
+use Rattle.items.specs.declared.item.Item.{Item}
 use Rattle.kept.specs.Kept.{headed, fixed}
 use Rattle.composed.specs.declared.Composed.{Composed}
 
@@ -51,11 +52,15 @@ pathRun l place n = pick (eqb (runRefusal (pathCount l) (runAt place n)) 0) (fro
 abbrev pub itemCount : Lists → ℕ
 itemCount l = min (length (l .kinds)) (length (l .spans))
 
+-- the tag that an item is written with: a heartbeat's and a path's is 0
+unfoldable pub tagOf : ℕ → ℕ → ℕ
+tagOf kind tag = pick (eqb kind proprietaryKind) tag 0
+
 abbrev pub itemIn : Lists → ℕ → Composed
 itemIn l i =
     record {
       kind = getD (getD (l .kinds) i []) 0 0;
-      tag = getD (getD (l .kinds) i []) 1 0;
+      tag = tagOf (getD (getD (l .kinds) i []) 0 0) (getD (getD (l .kinds) i []) 1 0);
       place = getD (getD (l .spans) i []) 0 0;
       len = getD (getD (l .spans) i []) 1 0;
     }
@@ -63,11 +68,17 @@ itemIn l i =
 abbrev pub itemsIn : Lists → ℕ → List Composed
 itemsIn l n = from (min n (itemCount l)) 0 (itemIn l)
 
--- kind 0 is a value in bytes; any other in an event is a path, which is written with tag 0; in a command every kind is a value
+-- a path of the three lists; a command has none
 abbrev pub isPath : Bool → Composed → Bool
-isPath ev it = pick ev (not (eqb (it .kind) 0)) false
+isPath ev it = pick ev (eqb (it .kind) pathKind) false
 
--- ---- what is wrong with one item, in each pass: 45, the first bad path entry, 19, 20
+-- ---- what is wrong with one item, in each pass: 29, 45, the first bad path entry, 19, 20
+
+-- a kind that is none, and a heartbeat or a path in a command
+unfoldable pub badKind : Bool → Composed → ℕ
+badKind ev it =
+    pick (eqb (it .kind) proprietaryKind) 0
+    (pick ev (pick (eqb (it .kind) heartbeatKind) 0 (pick (eqb (it .kind) pathKind) 0 typeLarge)) typeLarge)
 
 unfoldable pub outsideOf : Bool → Lists → Composed → ℕ
 outsideOf ev l it = runRefusal (pick (isPath ev it) (pathCount l) (length (l .src))) (runAt (it .place) (it .len))
@@ -82,13 +93,18 @@ longOf ev it = pick (ltb (pick (isPath ev it) pathMost itemMost) (it .len)) item
 unfoldable pub unevenOf : Bool → Composed → ℕ
 unevenOf ev it = pick (isPath ev it) 0 (pick (badBeat ev (it .tag) (it .len)) heartbeatLength 0)
 
--- over all items, pass by pass; and 45 first of all where there are not as many
+-- 29 over all items: a frame's writer asks it before all else
+unfoldable pub kindsRefusal : Bool → List (List ℕ) → List (List ℕ) → ℕ → ℕ
+kindsRefusal ev kinds spans n = firstOf (badKind ev) (itemsIn (lists kinds spans [] [] [] []) n)
+
+-- over all items, pass by pass; and 45 after the kinds where there are not as many
 unfoldable pub verdictOf : Bool → Lists → ℕ → ℕ
 verdictOf ev l n =
-    orElse (pick (ltb (itemCount l) n) outside 0)
+    orElse (kindsRefusal ev (l .kinds) (l .spans) n)
+    (orElse (pick (ltb (itemCount l) n) outside 0)
     (orElse (firstOf (outsideOf ev l) (itemsIn l n))
     (orElse (firstOf (badPath ev l) (itemsIn l n))
-    (orElse (firstOf (longOf ev) (itemsIn l n)) (firstOf (unevenOf ev) (itemsIn l n)))))
+    (orElse (firstOf (longOf ev) (itemsIn l n)) (firstOf (unevenOf ev) (itemsIn l n))))))
 
 -- ---- their bytes
 
@@ -104,7 +120,18 @@ itemWire ev l it = headed (pick (isPath ev it) 0 (it .tag)) (valueOf ev l it)
 unfoldable pub composedBytes : Bool → Lists → ℕ → List ℕ
 composedBytes ev l n = joined (itemWire ev l) (itemsIn l n)
 
--- what is written of n composed items, or the first refusal
+-- ---- items that were read, lent back as they were read: kind and tag, and the place of the value in the payload
+
+abbrev pub kindAndTag : Item → List ℕ
+kindAndTag i = kindCode (i .kind) ∷ i .tag ∷ []
+
+abbrev pub placeAndLength : Item → List ℕ
+placeAndLength i = i .value .start ∷ i .value .len ∷ []
+
+unfoldable pub lentBack : Bool → List ℕ → Lists
+lentBack ev s = lists (map kindAndTag (listedItems ev s)) (map placeAndLength (listedItems ev s)) [] [] [] s
+
+-- ---- what is written of n composed items, or the first refusal
 unfoldable pub composedWire : Bool → Lists → ℕ → Frame
 composedWire ev l n = unlessRefused (verdictOf ev l n) (bytes (composedBytes ev l n))
 

@@ -1,7 +1,7 @@
 // Items that a caller composes, in lent lists: judged pass by pass over the whole list, measured, and laid into a lent buffer.
 ghost use mathlib.Core.Path.{_≡_};
 ghost use mathlib.Core.List.{[]};
-ghost use mathlib.Core.Bool.{not, false as no};
+ghost use mathlib.Core.Bool.{false as no};
 ghost use Prim.Native.Nat.{min};
 ghost use lib.Dec.{eqb, ltb};
 ghost use lib.IntN.{pos};
@@ -11,9 +11,9 @@ ghost use Rattle.base.specs.Lists.{firstOf, joined};
 ghost use Rattle.base.specs.Numbers.{itemLong, heartbeatLength, itemMost, pathMost};
 ghost use Rattle.wire.specs.Lay.{put};
 ghost use Rattle.fields.specs.Path.{pathBytes, badEntry, sixOf};
-ghost use Rattle.items.specs.Items.{badBeat};
+ghost use Rattle.items.specs.Items.{badBeat, pathKind};
 ghost use Rattle.kept.specs.Kept.{headed};
-ghost use Rattle.composed.specs.Composed.{lists, paths, pathCount, pathAt, pathRun, itemIn, itemsIn, itemWire, verdictOf, composedBytes, capped};
+ghost use Rattle.composed.specs.Composed.{lists, paths, pathCount, pathAt, pathRun, tagOf, itemIn, itemsIn, itemWire, badKind, kindsRefusal, verdictOf, composedBytes, capped};
 ghost use Rattle.wire.specs.Run.{runAt};
 ghost use Rattle.composed.specs.Passes.{heldOf, pairAt, reachFor, faultOf, totalOf};
 use base::Checked;
@@ -22,13 +22,14 @@ use base::Refusal;
 use base::least;
 use fields::PathBytes;
 use fields::RelayPath;
+use items::ItemKind;
 use kept::is_beat;
 use kept::low_byte;
 use kept::put_item;
 use wire::Run;
 use wire::put_all;
 
-// One item, as it stands in the lists.
+// One item, as it stands in the lists, with the tag that it is written with.
 pub struct Composed {
     pub kind: u8,
     pub tag: u8,
@@ -156,6 +157,16 @@ fn span_at(spans: &[[u32; 2]], i: usize) -> [u32; 2]
     [0u32; 2]
 }
 
+// A heartbeat's and a path's is 0.
+fn tag_of(kind: u8, tag: u8) -> u8
+    ensures { λ r. ⌜ r ≡ tagOf kind tag ⌝ }
+{
+    if kind == ItemKind::PROPRIETARY {
+        return tag;
+    }
+    0
+}
+
 // An item as it stands in the lists; beyond a list's end stand zeros.
 pub fn item_at(i: usize, kinds: &[[u8; 2]], spans: &[[u32; 2]]) -> Composed
     ensures { λ r. ⌜ r ≡ itemIn (lists (now (kinds .entry)) (now (spans .entry)) [] [] [] []) i ⌝ }
@@ -164,19 +175,53 @@ pub fn item_at(i: usize, kinds: &[[u8; 2]], spans: &[[u32; 2]]) -> Composed
     let span = span_at(spans, i);
     Composed {
         kind: kind[0],
-        tag: kind[1],
+        tag: tag_of(kind[0], kind[1]),
         place: span[0],
         len: span[1],
     }
 }
 
 pub fn is_path(is_event: bool, kind: u8) -> bool
-    ensures { λ r. ⌜ r ≡ pick «is_event» (not (eqb kind 0)) no ⌝ }
+    ensures { λ r. ⌜ r ≡ pick «is_event» (eqb kind pathKind) no ⌝ }
 {
     if is_event {
-        return kind != 0;
+        return kind == ItemKind::PATH;
     }
     false
+}
+
+fn bad_kind(is_event: bool, it: Composed) -> u8
+    ensures { λ r. ⌜ r ≡ badKind «is_event» it ⌝ }
+{
+    if it.kind == ItemKind::PROPRIETARY {
+        return 0;
+    }
+    if is_event {
+        if it.kind == ItemKind::HEARTBEAT {
+            return 0;
+        }
+        if it.kind == ItemKind::PATH {
+            return 0;
+        }
+        return Refusal::TYPE_LARGE;
+    }
+    Refusal::TYPE_LARGE
+}
+
+// 29 where one of `count` items has a kind that is none, or, in a command, is no value; otherwise 0.
+pub fn kinds_refusal(is_event: bool, count: usize, kinds: &[[u8; 2]], spans: &[[u32; 2]]) -> u8
+    ensures { λ r. ⌜ r ≡ kindsRefusal «is_event» (now (kinds .entry)) (now (spans .entry)) count ⌝ }
+{
+    let n = item_count(count, kinds, spans);
+    let mut i: usize = 0;
+    while i < n {
+        let r = bad_kind(is_event, item_at(i, kinds, spans));
+        if r != 0 {
+            return r;
+        }
+        i += 1;
+    }
+    0
 }
 
 // How long the list is that an item's place and length are in.
@@ -288,6 +333,10 @@ pub fn verdict(
 ) -> u8
     ensures { λ r. ⌜ r ≡ verdictOf «is_event» (lists (now (kinds .entry)) (now (spans .entry)) (now (ids .entry)) (now (rssis .entry)) (now (snrs .entry)) (now (src .entry))) count ⌝ }
 {
+    let strange = kinds_refusal(is_event, count, kinds, spans);
+    if strange != 0 {
+        return strange;
+    }
     if least(kinds.len(), spans.len()) < count {
         return Refusal::OUTSIDE;
     }

@@ -63,14 +63,23 @@ headed-bytes : (h : List ℕ) (f : Frame) (w : List ℕ) → headedBy h f ≡ by
 headed-bytes h (bytes v) w e = (v, refl, cc)
 headed-bytes h (refused n) w e = let z : _≡_ {A = ℕ} 0 1 = cc in absurd (omega arith)
 
--- timestamp and relay id, and behind them what is written of the payload
-pub stamped-bytes : (ev : Bool) (l : Lent) (p : Stamped) (w : List ℕ) → stampedWire ev l p ≡ bytes w → w ≡ stamp (p .timestamp) (p .«relay_id») ++ bodyBytes ev l (p .body)
-unfolding stampedWire bodyWire
-stamped-bytes ev l p w e =
-    let g = headed-bytes (stamp (p .timestamp) (p .«relay_id»)) _ w e in
-    let u = unless-bytes (bodyRefusal ev l (p .body)) (bytes (bodyBytes ev l (p .body))) (g .0) (g .1) in
-    let y : bodyBytes ev l (p .body) ≡ g .0 = cc (u .1) in
-    g .2 ∙ ap (λ (v : List ℕ). stamp (p .timestamp) (p .«relay_id») ++ v) (sym y)
+-- nothing of the payload is refused; timestamp and relay id, and behind them what is written of it
+module _ (ev : Bool) (l : Lent) (p : Stamped) (w : List ℕ) where
+  parts : stampedWire ev l p ≡ bytes w → (v : List ℕ) × (bodyWire ev l (p .body) ≡ bytes v) × (w ≡ stamp (p .timestamp) (p .«relay_id») ++ v)
+  unfolding stampedWire
+  parts e = headed-bytes (stamp (p .timestamp) (p .«relay_id»)) _ w e
+
+  pub stamped-fine : stampedWire ev l p ≡ bytes w → bodyRefusal ev l (p .body) ≡ 0
+  unfolding bodyWire
+  stamped-fine e = let g = parts e in unless-bytes (bodyRefusal ev l (p .body)) (bytes (bodyBytes ev l (p .body))) (g .0) (g .1) .0
+
+  pub stamped-bytes : stampedWire ev l p ≡ bytes w → w ≡ stamp (p .timestamp) (p .«relay_id») ++ bodyBytes ev l (p .body)
+  unfolding bodyWire
+  stamped-bytes e =
+      let g = parts e in
+      let u = unless-bytes (bodyRefusal ev l (p .body)) (bytes (bodyBytes ev l (p .body))) (g .0) (g .1) in
+      let y : bodyBytes ev l (p .body) ≡ g .0 = cc (u .1) in
+      g .2 ∙ ap (λ (v : List ℕ). stamp (p .timestamp) (p .«relay_id») ++ v) (sym y)
 
 -- ---- writing what was read
 

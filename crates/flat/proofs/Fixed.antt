@@ -1,6 +1,8 @@
 -- Each public call of this crate has one outcome. Assumes nothing.
 use mathlib.Core.Path.{refl, sym, _∙_}
 use Rattle.base.proofs.Outcome.{Fixed}
+use Rattle.flat.proofs.strange_body.Kinds as strange-body-kinds
+use Rattle.flat.proofs.strange_body.Reads as strange-body-reads
 use Rattle.flat.proofs.Flat.of_mesh.Kinds as flat-of-mesh-kinds
 use Rattle.flat.proofs.Flat.of_mesh.Reads as flat-of-mesh-reads
 use Rattle.flat.proofs.Flat.of.Kinds as flat-of-kinds
@@ -21,6 +23,9 @@ use Rattle.flat.proofs.Flat.numbers.Kinds as numbers-kinds
 use Rattle.flat.proofs.Flat.numbers.Reads as numbers-reads
 use Rattle.flat.proofs.Flat.place.Kinds as place-kinds
 use Rattle.flat.proofs.Flat.place.Reads as place-reads
+
+strange-body : Fixed 0 strange-body-kinds.ps strange-body-kinds.r strange-body-reads.Post
+strange-body κs a x y v w p q = (p ∙ sym q, refl)
 
 flat-of-mesh : Fixed 0 flat-of-mesh-kinds.ps flat-of-mesh-kinds.r flat-of-mesh-reads.Post
 flat-of-mesh κs a x y v w p q = (p ∙ sym q, refl)

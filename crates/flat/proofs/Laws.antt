@@ -1,8 +1,9 @@
 -- What is made of a packet gives that packet back, whichever it is. Assumes nothing.
 use Prim.Native.Nat.{ℕ}
-use mathlib.Core.Bool.{Bool, false}
-use mathlib.Core.Path.{_≡_, refl, ap, _∙_}
+use mathlib.Core.Bool.{Bool, true, false}
+use mathlib.Core.Path.{_≡_, refl, sym, ap, _∙_}
 use lib.Dec.{eqb}
+use Rattle.base.specs.Numbers.{typeLarge}
 use Rattle.fields.specs.Header.{codeOf, typeRead}
 use Rattle.fields.specs.declared.header.MHDR.{MHDR}
 use Rattle.fields.specs.declared.header.PayloadType.{PayloadType}
@@ -17,11 +18,11 @@ use Rattle.packets.specs.declared.mesh.Payload.{Payload}
 use Rattle.packets.specs.declared.mesh.Payload.the-variants.{Uplink as AnUplink, Downlink as ADownlink, Event as AnEvent, Command as ACommand}
 use Rattle.packets.specs.declared.mesh.MeshPacket.{MeshPacket}
 use Rattle.packets.specs.declared.mesh.MeshRead.{MeshRead}
-use Rattle.packets.specs.declared.mesh.MeshRead.the-variants.{Mesh}
+use Rattle.packets.specs.declared.mesh.MeshRead.the-variants.{Mesh, Refused}
 use Rattle.packets.specs.declared.any.Packet.{Packet}
 use Rattle.packets.specs.declared.any.Packet.the-variants.{Mesh as AMesh, Lora}
 use Rattle.packets.specs.declared.any.PacketRead.the-variants.{Packet as PacketIs}
-use Rattle.flat.specs.Flat.{placeOf, headOf, flatOfUplink, flatOfDownlink, flatOfStamped, flatOfPayload, flatOfMesh, flatOf, bodyFrom, typedBy, kindBy, meshFrom, packetFrom}
+use Rattle.flat.specs.Flat.{placeOf, headOf, flatOfUplink, flatOfDownlink, flatOfStamped, flatOfPayload, flatOfMesh, flatOf, bodyFrom, typedBy, kindBy, strangeBody, meshFrom, packetFrom}
 use Rattle.flat.specs.declared.Flat.{Flat}
 use Rattle.flat.specs.declared.Head.{Head}
 
@@ -33,24 +34,41 @@ body-back (Open Frame r) = refl
 body-back (Open Work r) = refl
 body-back (Items n) = refl
 
+-- a body code that is none, and any other
+module _ (f : Flat) (b : Bool) (e : b ≡ strangeBody (f .kind) (f .body)) where
+  pub mesh-strange : b ≡ true → meshFrom f ≡ Refused typeLarge
+  unfolding meshFrom
+  mesh-strange h = simp (sym e ∙ h)
+
+  pub mesh-known : b ≡ false → meshFrom f ≡ kindBy f (typeRead (f .kind))
+  unfolding meshFrom
+  mesh-known h = simp (sym e ∙ h)
+
+no-strange : (b : Body) → strangeBody 2 (placeOf b .body) ≡ false
+unfolding strangeBody
+no-strange Empty = refl
+no-strange (Sealed r) = refl
+no-strange (Open Frame r) = refl
+no-strange (Open Work r) = refl
+no-strange (Items n) = refl
+
 -- the kind and the header's type, apart from each other
-reads : (f : Flat) (k t : PayloadType) → f .kind ≡ codeOf k → f .«payload_type» ≡ codeOf t → meshFrom f ≡ typedBy f k (Kind t)
-unfolding meshFrom
-reads f k t p q = ap (kindBy f) (ap typeRead p ∙ type-back k) ∙ ap (typedBy f k) (ap typeRead q ∙ type-back t)
+reads : (f : Flat) (k t : PayloadType) → strangeBody (f .kind) (f .body) ≡ false → f .kind ≡ codeOf k → f .«payload_type» ≡ codeOf t → meshFrom f ≡ typedBy f k (Kind t)
+reads f k t b p q = mesh-known f false (sym b) refl ∙ ap (kindBy f) (ap typeRead p ∙ type-back k) ∙ ap (typedBy f k) (ap typeRead q ∙ type-back t)
 
 module _ (h : MHDR) (has : Bool) (mic : ℕ) where
   abbrev whole : Payload → MeshRead
   whole q = Mesh (record { mhdr = h; payload = q; «has_mic» = has; mic = mic })
 
   payload-back : (q : Payload) → meshFrom (flatOfPayload (headOf h has mic) q) ≡ whole q
-  unfolding flatOfPayload
-  payload-back (AnUplink u) = reads (flatOfUplink (headOf h has mic) u) Uplink (h .«payload_type») refl refl
-  payload-back (ADownlink u) = reads (flatOfDownlink (headOf h has mic) u) Downlink (h .«payload_type») refl refl
+  unfolding flatOfPayload strangeBody
+  payload-back (AnUplink u) = reads (flatOfUplink (headOf h has mic) u) Uplink (h .«payload_type») refl refl refl
+  payload-back (ADownlink u) = reads (flatOfDownlink (headOf h has mic) u) Downlink (h .«payload_type») refl refl refl
   payload-back (AnEvent u) =
-      reads (flatOfStamped 2 (headOf h has mic) (u .timestamp) (u .«relay_id») (u .events)) Event (h .«payload_type») refl refl
+      reads (flatOfStamped 2 (headOf h has mic) (u .timestamp) (u .«relay_id») (u .events)) Event (h .«payload_type») (no-strange (u .events)) refl refl
       ∙ ap (λ (b : Body). whole (AnEvent (record { timestamp = u .timestamp; «relay_id» = u .«relay_id»; events = b }))) (body-back (u .events))
   payload-back (ACommand u) =
-      reads (flatOfStamped 3 (headOf h has mic) (u .timestamp) (u .«relay_id») (u .commands)) Command (h .«payload_type») refl refl
+      reads (flatOfStamped 3 (headOf h has mic) (u .timestamp) (u .«relay_id») (u .commands)) Command (h .«payload_type») (no-strange (u .commands)) refl refl
       ∙ ap (λ (b : Body). whole (ACommand (record { timestamp = u .timestamp; «relay_id» = u .«relay_id»; commands = b }))) (body-back (u .commands))
 
 pub mesh-back : (p : MeshPacket) → meshFrom (flatOfMesh p) ≡ Mesh p

@@ -2,9 +2,10 @@
 use Prim.Native.Nat.{ℕ}
 use mathlib.Core.Bool.{Bool, true, false}
 use mathlib.Core.List.{List, [], _∷_}
-use lib.Dec.{eqb}
+use lib.Dec.{ltb, eqb}
 use lib.IntN.{ℤ, pos}
 use Rattle.base.specs.Pick.{pick}
+use Rattle.base.specs.Numbers.{typeLarge}
 use Rattle.wire.specs.declared.run.Run.{Run}
 use Rattle.fields.specs.Header.{codeOf, typeRead}
 use Rattle.fields.specs.declared.header.MHDR.{MHDR}
@@ -199,9 +200,13 @@ abbrev pub kindBy : Flat → TypeRead → MeshRead
 kindBy f (NoKind n) = Refused n
 kindBy f (Kind kind) = typedBy f kind (typeRead (f .«payload_type»))
 
--- first the kind, then the header's type: 29 over 3
+-- a body code over 4 of an event or a command; of other kinds it does not count
+unfoldable pub strangeBody : ℕ → ℕ → Bool
+strangeBody kind body = pick (ltb kind 2) false (ltb 4 body)
+
+-- 29 of the body, the kind and the header's type
 unfoldable pub meshFrom : Flat → MeshRead
-meshFrom f = kindBy f (typeRead (f .kind))
+meshFrom f = pick (strangeBody (f .kind) (f .body)) (Refused typeLarge) (kindBy f (typeRead (f .kind)))
 
 unfoldable pub packetFrom : Flat → PacketRead
 packetFrom f = pick (eqb (f .kind) 4) (PacketIs (Lora (runFrom f))) (ofMesh (meshFrom f))

@@ -1,6 +1,7 @@
 // A packet as one plain struct of numbers, for callers from C, where no enum can stand: which fields count goes by `kind` and `body`.
 ghost use mathlib.Core.Path.{_≡_};
-ghost use Rattle.flat.specs.Flat.{placeOf, bodyFrom, headOf, flatOfUplink, flatOfDownlink, flatOfStamped, flatOfLora, flatOfMesh, flatOf, uplinkFrom, downlinkFrom, eventFrom, commandFrom, payloadFrom, meshFrom, packetFrom, bit, numbersOf, placed};
+ghost use Rattle.flat.specs.Flat.{placeOf, bodyFrom, headOf, flatOfUplink, flatOfDownlink, flatOfStamped, flatOfLora, flatOfMesh, flatOf, uplinkFrom, downlinkFrom, eventFrom, commandFrom, payloadFrom, strangeBody, meshFrom, packetFrom, bit, numbersOf, placed};
+use base::Refusal;
 use bodies::Body;
 use bodies::Held;
 use events::CommandPayload;
@@ -38,7 +39,7 @@ pub struct Flat {
     pub tx_power: u8,
     pub delay: u8,
     pub timestamp: u32,
-    // Of an event or a command: 0 empty, 1 sealed, 2 open in the frame, 3 open in the work buffer, any other items of the lent lists.
+    // Of an event or a command: one of the codes below.
     pub body: u8,
     // Where the payload lies; of items, `len` is their count.
     pub start: u64,
@@ -64,29 +65,29 @@ fn place_of(b: Body) -> Place
 {
     match b {
         Body::Empty => Place {
-            body: 0,
+            body: Flat::EMPTY,
             start: 0,
             len: 0,
         },
         Body::Sealed(run) => Place {
-            body: 1,
+            body: Flat::SEALED,
             start: run.start as u64,
             len: run.len as u64,
         },
         Body::Open { held, run } => match held {
             Held::Frame => Place {
-                body: 2,
+                body: Flat::OPEN_IN_FRAME,
                 start: run.start as u64,
                 len: run.len as u64,
             },
             Held::Work => Place {
-                body: 3,
+                body: Flat::OPEN_IN_WORK,
                 start: run.start as u64,
                 len: run.len as u64,
             },
         },
         Body::Items(n) => Place {
-            body: 4,
+            body: Flat::ITEMS,
             start: 0,
             len: n as u64,
         },
@@ -105,25 +106,35 @@ fn run_of(start: u64, len: u64) -> Run
 fn body_from(body: u8, start: u64, len: u64) -> Body
     ensures { λ r. ⌜ r ≡ bodyFrom body start len ⌝ }
 {
-    if body == 0 {
+    if body == Flat::EMPTY {
         return Body::Empty;
     }
-    if body == 1 {
+    if body == Flat::SEALED {
         return Body::Sealed(run_of(start, len));
     }
-    if body == 2 {
+    if body == Flat::OPEN_IN_FRAME {
         return Body::Open {
             held: Held::Frame,
             run: run_of(start, len),
         };
     }
-    if body == 3 {
+    if body == Flat::OPEN_IN_WORK {
         return Body::Open {
             held: Held::Work,
             run: run_of(start, len),
         };
     }
     Body::Items(len as usize)
+}
+
+// Whether a body code of an event or a command is none; of other kinds it does not count.
+pub fn strange_body(kind: u8, body: u8) -> bool
+    ensures { λ r. ⌜ r ≡ strangeBody kind body ⌝ }
+{
+    if kind < PayloadType::EVENT {
+        return false;
+    }
+    Flat::ITEMS < body
 }
 
 fn head_of(mhdr: MHDR, has_mic: bool, mic: u32) -> Head
@@ -275,6 +286,17 @@ pub fn from_u32(x: u32) -> u64
 impl Flat {
     pub const LORA: u8 = 4;
 
+    // What a body is: nothing, sealed, open in the frame or in the work buffer, or items of the lent lists.
+    pub const EMPTY: u8 = 0;
+
+    pub const SEALED: u8 = 1;
+
+    pub const OPEN_IN_FRAME: u8 = 2;
+
+    pub const OPEN_IN_WORK: u8 = 3;
+
+    pub const ITEMS: u8 = 4;
+
     // What does not count is 0.
     pub fn of_mesh(p: MeshPacket) -> Flat
         ensures { λ r. ⌜ r ≡ flatOfMesh p ⌝ }
@@ -399,10 +421,13 @@ impl Flat {
         }
     }
 
-    // 29 where the kind is over 3, or the header's type.
+    // 29 where the kind is over 3, or the header's type, or the body of an event or a command is none.
     pub fn mesh(self) -> MeshRead
         ensures { λ r. ⌜ r ≡ meshFrom self ⌝ }
     {
+        if strange_body(self.kind, self.body) {
+            return MeshRead::Refused(Refusal::TYPE_LARGE);
+        }
         match PayloadType::from_byte(self.kind) {
             TypeRead::Refused(n) => MeshRead::Refused(n),
             TypeRead::Kind(kind) => match PayloadType::from_byte(self.payload_type) {
@@ -420,7 +445,7 @@ impl Flat {
         }
     }
 
-    // 29 where the kind is over 4, or the header's type of a mesh packet over 3.
+    // 29 where the kind is over 4, and as `mesh` of a mesh packet.
     pub fn packet(self) -> PacketRead
         ensures { λ r. ⌜ r ≡ packetFrom self ⌝ }
     {

@@ -25,6 +25,7 @@ use Rattle.payloads.specs.Write.{withMic}
 use Rattle.composed.specs.Composed.{Lists}
 use Rattle.packets.specs.Read.{bodyIn, meshOf}
 use Rattle.packets.specs.Write.{payloadWire, behind, messageOf, meshFrame}
+use Rattle.packets.proofs.Laws.{message-alone}
 use Rattle.packets.specs.declared.mesh.MeshPacket.{MeshPacket}
 use Rattle.packets.specs.declared.mesh.MeshRead.the-variants.{Mesh, Refused}
 use Rattle.trips.proofs.Which.{body-length}
@@ -115,8 +116,7 @@ module _ (s : List ℕ) (p : MeshPacket) (small : Bytes s) (read : meshOf s ≡ 
       packet = record { mhdr = h; payload = p .payload; «has_mic» = q; mic = m }
 
       pub message-is : messageOf (alone s) packet ≡ bytes (b ∷ C)
-      unfolding messageOf
-      message-is = ap₂ behind byte wire-is
+      message-is = message-alone (alone s) packet refl refl ∙ ap₂ behind byte wire-is
 
       pub signed-is : signedOf (alone s) packet ≡ bytes (b ∷ C)
       unfolding signedOf fitting
@@ -161,7 +161,8 @@ edit-unread E s k n e = ap (signedAnew E s n) e
 
 -- 6, 7
 pub edit-uncounted : (E : List ℕ → List ℕ) (s : List ℕ) (p : MeshPacket) (k n : ℕ) → meshOf s ≡ Mesh p → headerByte (carryingCount p n .mhdr) ≡ NoByte k → hopEdit E s n ≡ refused k
-unfolding hopEdit setMic signedOf fitting messageOf
+unfolding hopEdit setMic signedOf fitting
 edit-uncounted E s p k n e f =
     ap (signedAnew E s n) e
+    ∙ ap (λ (x : Frame). writtenOf (alone s) (signedBy E (carryingCount p n) (fitting x))) (message-alone (alone s) (carryingCount p n) refl refl)
     ∙ ap (λ (x : HeaderByte). writtenOf (alone s) (signedBy E (carryingCount p n) (fitting (behind x (payloadWire (alone s) (p .payload)))))) f

@@ -15,6 +15,8 @@ use Rattle.items.proofs.item.Event.decode.Kinds as event-decode-kinds
 use Rattle.items.proofs.item.Event.decode.Reads as event-decode-reads
 use Rattle.items.proofs.item.Command.decode.Kinds as command-decode-kinds
 use Rattle.items.proofs.item.Command.decode.Reads as command-decode-reads
+use Rattle.items.proofs.item.ItemKind.to_byte.Kinds as item-kind-to-byte-kinds
+use Rattle.items.proofs.item.ItemKind.to_byte.Reads as item-kind-to-byte-reads
 use Rattle.items.proofs.item.Item.sealed.Kinds as item-sealed-kinds
 use Rattle.items.proofs.item.Item.sealed.Reads as item-sealed-reads
 use Rattle.items.proofs.item.Item.get_type.Kinds as item-get-type-kinds
@@ -40,6 +42,9 @@ event-decode κs a x y v w p q = (p ∙ sym q, refl)
 
 command-decode : Fixed 1 command-decode-kinds.ps command-decode-kinds.r command-decode-reads.Post
 command-decode κs a x y v w p q = (p ∙ sym q, refl)
+
+item-kind-to-byte : Fixed 0 item-kind-to-byte-kinds.ps item-kind-to-byte-kinds.r item-kind-to-byte-reads.Post
+item-kind-to-byte κs a x y v w p q = (p ∙ sym q, refl)
 
 item-sealed : Fixed 0 item-sealed-kinds.ps item-sealed-kinds.r item-sealed-reads.Post
 item-sealed κs a x y v w p q = (p ∙ sym q, refl)

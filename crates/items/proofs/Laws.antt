@@ -10,8 +10,10 @@ use lib.ListN.{length, getD, take, drop, length-drop, drop-of-length-le}
 use lib.Seq.{drop-cons, drop-drop, length-take-le}
 use borrow.Author.Tests.{lt-ltb, le-ltb, le-leb, lt-leb, ltb-true, ltb-false, leb-true, leb-false}
 use Rattle.base.specs.Pick.{pick}
-use Rattle.items.specs.Items.{badBeat, Piece, kept, skipped, cut, pieces, itemAt, keptBytes, skippedBytes, cutBytes, Turn}
+use Rattle.items.specs.Items.{badBeat, Piece, kept, skipped, cut, pieces, itemAt, keptBytes, skippedBytes, cutBytes, itemOf, cutAt, Turn, nextOf, walkedTo}
+use Rattle.items.specs.declared.item.Item.{Item}
 use Rattle.items.specs.declared.item.ItemRead.{ItemRead}
+use Rattle.items.specs.declared.item.ItemRead.the-variants.{Kept, Skipped, Cut, End, Refused}
 
 -- to pass over k bytes is to read what is left without them
 pub skip : (ev : Bool) (k : ℕ) (s : List ℕ) → pieces ev k s ≡ pieces ev 0 (drop k s)
@@ -43,14 +45,14 @@ stop ev t n rest h = simp (lt-leb _ _ h)
 module _ (ev : Bool) (s : List ℕ) (at : ℕ) where
   ended : length s ≤ at → Turn ev s at (itemAt ev s at)
   unfolding itemAt pieces
-  ended h = simp (le-leb _ _ h) (h, ap (pieces ev 0) (drop-of-length-le s h))
+  ended h = simp (le-leb _ _ h) (refl, h, ap (pieces ev 0) (drop-of-length-le s h))
 
   lone : at < length s → length s - at < 2 → Turn ev s at (itemAt ev s at)
   unfolding itemAt pieces
   lone h k =
       let z : length s ≤ suc at = omega arith in
       let e : drop at s ≡ getD s at 0 ∷ [] = drop-cons s at 0 h ∙ ap (λ (l : List ℕ). getD s at 0 ∷ l) (drop-of-length-le s z) in
-      simp (lt-leb _ _ h, lt-ltb _ _ k) (refl, h, rw e)
+      simp (lt-leb _ _ h, lt-ltb _ _ k) (refl, refl, h, rw e)
 
   module _ (h : at < length s) (k : 2 ≤ length s - at) where
     two : at + 2 ≤ length s
@@ -60,7 +62,7 @@ module _ (ev : Bool) (s : List ℕ) (at : ℕ) where
     unfolding itemAt
     long l =
         let f : length (drop (at + 2) s) < getD s (at + 1) 0 = simp length-drop (omega arith) in
-        simp (lt-leb _ _ h, le-ltb _ _ k, lt-ltb _ _ l) (refl, h, rw (heads s at two) (stop ev _ _ _ f))
+        simp (lt-leb _ _ h, le-ltb _ _ k, lt-ltb _ _ l) (refl, refl, h, rw (heads s at two) (stop ev _ _ _ f))
 
     whole : (b : Bool) → badBeat ev (getD s at 0) (getD s (at + 1) 0) ≡ b → getD s (at + 1) 0 ≤ length s - at - 2 → Turn ev s at (itemAt ev s at)
     unfolding itemAt
@@ -83,6 +85,57 @@ module _ (ev : Bool) (s : List ℕ) (at : ℕ) where
   -- whatever the reader answers
   pub turn : (r : ItemRead) → itemAt ev s at ≡ r → Turn ev s at r
   turn r e = rw e at (tests _ _ _ refl refl refl)
+
+-- ---- from one item to the next
+
+module _ (ev : Bool) (s : List ℕ) where
+  -- each step goes on, and none beyond the payload
+  pub goes-on : (at : ℕ) → at < length s → (at < nextOf (itemAt ev s at)) × (nextOf (itemAt ev s at) ≤ length s)
+  goes-on at h = by (itemAt ev s at) refl
+    where
+      by : (r : ItemRead) → itemAt ev s at ≡ r → (at < nextOf r) × (nextOf r ≤ length s)
+      by (Kept i nx) e = let t = turn ev s at _ e in (omega arith, omega arith)
+      by (Skipped i nx) e = let t = turn ev s at _ e in (omega arith, omega arith)
+      by (Cut r nx) e = let t = turn ev s at _ e in (omega arith, omega arith)
+      by (End nx) e = let t = turn ev s at _ e in absurd (omega arith)
+      by (Refused n) e = absurd (turn ev s at _ e)
+
+  -- at the end it stays
+  pub stays : (at : ℕ) → length s ≤ at → itemAt ev s at ≡ End (length s)
+  unfolding itemAt
+  stays at h = simp (le-leb (length s) at h)
+
+  pub nearer : (n at : ℕ) → length s ≤ at + suc n → length s ≤ nextOf (itemAt ev s at) + n
+  nearer n at h = by (ltb at (length s)) refl
+    where
+      by : (t : Bool) → ltb at (length s) ≡ t → length s ≤ nextOf (itemAt ev s at) + n
+      by true e = let g = goes-on at (ltb-true _ _ e) in omega arith
+      by false e = let g = ap nextOf (stays at (ltb-false _ _ e)) in omega arith
+
+  walked-far : (n at : ℕ) → length s ≤ at + n → length s ≤ walkedTo ev s n at
+  unfolding walkedTo
+  walked-far zero at h = omega arith
+  walked-far (suc n) at h = walked-far n _ (nearer n at h)
+
+  -- as many steps as bytes lead to the end, for every payload
+  pub walk-ends : itemAt ev s (walkedTo ev s (length s) 0) ≡ End (length s)
+  walk-ends = stays _ (walked-far (length s) 0 (omega arith))
+
+-- what is kept is no bad heartbeat
+kept-by : (ev : Bool) (s : List ℕ) (at : ℕ) (i : Item) (nx : ℕ) (x y z b : Bool) → badBeat ev (getD s at 0) (getD s (at + 1) 0) ≡ b
+    → pick x (End (length s)) (pick y (cutAt (length s) at) (pick z (cutAt (length s) at)
+    (pick b (Skipped (itemOf ev s at) (at + 2 + getD s (at + 1) 0)) (Kept (itemOf ev s at) (at + 2 + getD s (at + 1) 0))))) ≡ Kept i nx
+    → badBeat ev (getD s at 0) (getD s (at + 1) 0) ≡ false
+kept-by ev s at i nx true y z b q e = let n : _≡_ {A = ℕ} 0 1 = cc in absurd (omega arith)
+kept-by ev s at i nx false true z b q e = let n : _≡_ {A = ℕ} 0 1 = cc in absurd (omega arith)
+kept-by ev s at i nx false false true b q e = let n : _≡_ {A = ℕ} 0 1 = cc in absurd (omega arith)
+kept-by ev s at i nx false false false true q e = let n : _≡_ {A = ℕ} 0 1 = cc in absurd (omega arith)
+kept-by ev s at i nx false false false false q e = q
+
+pub kept-whole : (ev : Bool) (s : List ℕ) (at : ℕ) (i : Item) (nx : ℕ) → itemAt ev s at ≡ Kept i nx → badBeat ev (getD s at 0) (getD s (at + 1) 0) ≡ false
+unfolding itemAt
+kept-whole ev s at i nx e =
+    kept-by ev s at i nx (leb (length s) at) (ltb (length s - at) 2) (ltb (length s - at - 2) (getD s (at + 1) 0)) (badBeat ev (getD s at 0) (getD s (at + 1) 0)) refl e
 
 abbrev total : List Piece → ℕ
 total ps = keptBytes ps + skippedBytes ps + cutBytes ps

@@ -97,16 +97,16 @@ module _ (ev : Bool) (s : List ℕ) (at k sk kb sb : ℕ) (f : Sofar ev s at k s
             ∙ sym (never (eqb sk 0)) ∙ ap (λ (x : Bool). pick (eqb sk 0) x false) (sym (ap isClean (u .3))) ∙ f .clean;
       }
 
-  pub at-cut : (r : Run) → itemAt ev s at ≡ Cut r
+  pub at-cut : (r : Run) (nx : ℕ) → itemAt ev s at ≡ Cut r nx
       → _≡_ {A = Opening} (record { kept = k; skipped = sk; «kept_bytes» = kb; «skipped_bytes» = sb; «cut_bytes» = r .len; clean = false }) (openingOf ev s)
   unfolding openingOf
-  at-cut r e =
+  at-cut r nx e =
       let u = turn ev s at _ e in
-      let a = ap keptItems (u .2) in
-      let b = ap skippedItems (u .2) in
-      let c = ap keptBytes (u .2) in
-      let d = ap skippedBytes (u .2) in
-      let g = ap cutBytes (u .2) in
+      let a = ap keptItems (u .3) in
+      let b = ap skippedItems (u .3) in
+      let c = ap keptBytes (u .3) in
+      let d = ap skippedBytes (u .3) in
+      let g = ap cutBytes (u .3) in
       let l = length-drop at s in
       let n : r .len ≡ length s - at = ap (λ (x : Run). x .len) (u .0) in
       let p : k ≡ keptItems (pieces ev 0 s) = omega arith in
@@ -114,23 +114,23 @@ module _ (ev : Bool) (s : List ℕ) (at k sk kb sb : ℕ) (f : Sofar ev s at k s
       let t : kb ≡ keptBytes (pieces ev 0 s) = omega arith in
       let v : sb ≡ skippedBytes (pieces ev 0 s) = omega arith in
       let w : r .len ≡ cutBytes (pieces ev 0 s) = omega arith in
-      let z : false ≡ isClean (pieces ev 0 s) = sym (never (eqb sk 0)) ∙ ap (λ (x : Bool). pick (eqb sk 0) x false) (sym (ap isClean (u .2))) ∙ f .clean in
+      let z : false ≡ isClean (pieces ev 0 s) = sym (never (eqb sk 0)) ∙ ap (λ (x : Bool). pick (eqb sk 0) x false) (sym (ap isClean (u .3))) ∙ f .clean in
       cc
 
-  pub at-end : itemAt ev s at ≡ End
+  pub at-end : (nx : ℕ) → itemAt ev s at ≡ End nx
       → _≡_ {A = Opening} (record { kept = k; skipped = sk; «kept_bytes» = kb; «skipped_bytes» = sb; «cut_bytes» = 0; clean = eqb sk 0 }) (openingOf ev s)
   unfolding openingOf
-  at-end e =
+  at-end nx e =
       let u = turn ev s at _ e in
-      let a = ap keptItems (u .1) in
-      let b = ap skippedItems (u .1) in
-      let c = ap keptBytes (u .1) in
-      let d = ap skippedBytes (u .1) in
-      let g = ap cutBytes (u .1) in
+      let a = ap keptItems (u .2) in
+      let b = ap skippedItems (u .2) in
+      let c = ap keptBytes (u .2) in
+      let d = ap skippedBytes (u .2) in
+      let g = ap cutBytes (u .2) in
       let p : k ≡ keptItems (pieces ev 0 s) = omega arith in
       let q : sk ≡ skippedItems (pieces ev 0 s) = omega arith in
       let t : kb ≡ keptBytes (pieces ev 0 s) = omega arith in
       let v : sb ≡ skippedBytes (pieces ev 0 s) = omega arith in
       let w : 0 ≡ cutBytes (pieces ev 0 s) = omega arith in
-      let z : eqb sk 0 ≡ isClean (pieces ev 0 s) = sym (as-it-is (eqb sk 0)) ∙ ap (λ (x : Bool). pick (eqb sk 0) x false) (sym (ap isClean (u .1))) ∙ f .clean in
+      let z : eqb sk 0 ≡ isClean (pieces ev 0 s) = sym (as-it-is (eqb sk 0)) ∙ ap (λ (x : Bool). pick (eqb sk 0) x false) (sym (ap isClean (u .2))) ∙ f .clean in
       cc

@@ -113,18 +113,36 @@ countsSay (NoCount n) = number n
 unfoldable pub kindOf : Bool → ℕ → ItemKind
 kindOf ev t = pick ev (pick (eqb t 0) Heartbeat Proprietary) Proprietary
 
+-- a kind as a number, of items that are read and of those that a caller composes; a path in lists is a heartbeat that was not read
+abbrev pub heartbeatKind : ℕ
+heartbeatKind = 1
+
+abbrev pub proprietaryKind : ℕ
+proprietaryKind = 2
+
+abbrev pub pathKind : ℕ
+pathKind = 3
+
+abbrev pub kindCode : ItemKind → ℕ
+kindCode Encrypted = 0
+kindCode Heartbeat = heartbeatKind
+kindCode Proprietary = proprietaryKind
+
 abbrev pub itemOf : Bool → List ℕ → ℕ → Item
 itemOf ev s at = record { kind = kindOf ev (getD s at 0); tag = getD s at 0; value = record { start = at + 2; len = getD s (at + 1) 0 } }
 
--- all from a place on
-abbrev pub tailAt : List ℕ → ℕ → Run
-tailAt s at = record { start = at; len = length s - at }
+-- all from a place on, which the end of a payload of n bytes cuts
+abbrev pub tailAt : ℕ → ℕ → Run
+tailAt n at = record { start = at; len = n - at }
+
+abbrev pub cutAt : ℕ → ℕ → ItemRead
+cutAt n at = Cut (tailAt n at) n
 
 unfoldable pub itemAt : Bool → List ℕ → ℕ → ItemRead
 itemAt ev s at =
-    pick (leb (length s) at) End
-    (pick (ltb (length s - at) 2) (Cut (tailAt s at))
-    (pick (ltb (length s - at - 2) (getD s (at + 1) 0)) (Cut (tailAt s at))
+    pick (leb (length s) at) (End (length s))
+    (pick (ltb (length s - at) 2) (cutAt (length s) at)
+    (pick (ltb (length s - at - 2) (getD s (at + 1) 0)) (cutAt (length s) at)
     (pick (badBeat ev (getD s at 0) (getD s (at + 1) 0))
     (Skipped (itemOf ev s at) (at + 2 + getD s (at + 1) 0))
     (Kept (itemOf ev s at) (at + 2 + getD s (at + 1) 0)))))
@@ -137,13 +155,42 @@ Turn ev s at (Kept i nx) =
 Turn ev s at (Skipped i nx) =
     (i ≡ itemOf ev s at) × (nx ≡ at + 2 + getD s (at + 1) 0) × (nx ≤ length s)
     × (pieces ev 0 (drop at s) ≡ skipped (take (getD s (at + 1) 0) (drop (at + 2) s)) ∷ pieces ev 0 (drop nx s))
-Turn ev s at (Cut r) = (r ≡ tailAt s at) × (at < length s) × (pieces ev 0 (drop at s) ≡ cut (drop at s) ∷ [])
-Turn ev s at End = (length s ≤ at) × (pieces ev 0 (drop at s) ≡ [])
+Turn ev s at (Cut r nx) = (r ≡ tailAt (length s) at) × (nx ≡ length s) × (at < length s) × (pieces ev 0 (drop at s) ≡ cut (drop at s) ∷ [])
+Turn ev s at (End nx) = (nx ≡ length s) × (length s ≤ at) × (pieces ev 0 (drop at s) ≡ [])
 Turn ev s at (Refused n) = ⊥
 
 -- of a bare payload: 5 where it is over 8,179 bytes
 unfoldable pub bareItemAt : Bool → List ℕ → ℕ → ItemRead
 bareItemAt ev s at = pick (ltb payloadMost (length s)) (Refused frameLong) (itemAt ev s at)
+
+-- ---- from one item to the next
+
+abbrev pub nextOf : ItemRead → ℕ
+nextOf (Kept i nx) = nx
+nextOf (Skipped i nx) = nx
+nextOf (Cut r nx) = nx
+nextOf (End nx) = nx
+nextOf (Refused n) = 0
+
+-- where n steps from a place lead
+unfoldable pub walkedTo : Bool → List ℕ → ℕ → ℕ → ℕ
+walkedTo ev s zero at = at
+walkedTo ev s (suc n) at = walkedTo ev s n (nextOf (itemAt ev s at))
+
+abbrev pub keptBefore : ItemRead → List Item → List Item
+keptBefore (Kept i nx) is = i ∷ is
+keptBefore (Skipped i nx) is = is
+keptBefore (Cut r nx) is = is
+keptBefore (End nx) is = is
+keptBefore (Refused n) is = is
+
+-- the items that n steps from a place keep; and, as there are no more steps than bytes, all that a payload keeps
+unfoldable pub listedBy : Bool → List ℕ → ℕ → ℕ → List Item
+listedBy ev s zero at = []
+listedBy ev s (suc n) at = keptBefore (itemAt ev s at) (listedBy ev s n (nextOf (itemAt ev s at)))
+
+unfoldable pub listedItems : Bool → List ℕ → List Item
+listedItems ev s = listedBy ev s (length s) 0
 
 -- ---- a sealed run as one item, and an item's type
 
@@ -158,17 +205,17 @@ tagUnlessSealed Proprietary t = t
 abbrev pub typeOf : Item → ℕ
 typeOf i = tagUnlessSealed (i .kind) (i .tag)
 
--- ---- what the reader says: an item kept or skipped and the place of the next, the tail that is cut, or none from the end on
+-- ---- what the reader says: an item kept or skipped, the tail that is cut, or none from the end on; and the place behind it
 
 pub data Found : Type 0 where
   keptItem : Item → ℕ → Found
   skippedItem : Item → ℕ → Found
-  cutTail : Run → Found
-  noItem : Found
+  cutTail : Run → ℕ → Found
+  noItem : ℕ → Found
 
 abbrev pub itemSays : ItemRead → Answer Found
 itemSays (Kept i next) = value (keptItem i next)
 itemSays (Skipped i next) = value (skippedItem i next)
-itemSays (Cut r) = value (cutTail r)
-itemSays End = value noItem
+itemSays (Cut r next) = value (cutTail r next)
+itemSays (End next) = value (noItem next)
 itemSays (Refused n) = number n

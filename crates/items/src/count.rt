@@ -45,7 +45,7 @@ pub fn count_items(payload: &[u8], is_event: bool) -> Opening
                 skipped_bytes = skipped_bytes + (next - at);
                 at = next;
             }
-            ItemRead::Cut(tail) => {
+            ItemRead::Cut { tail, next: _ } => {
                 return Opening {
                     kept,
                     skipped,
@@ -55,7 +55,7 @@ pub fn count_items(payload: &[u8], is_event: bool) -> Opening
                     clean: false,
                 };
             }
-            ItemRead::End => {
+            ItemRead::End { next: _ } => {
                 return Opening {
                     kept,
                     skipped,

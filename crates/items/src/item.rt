@@ -1,7 +1,8 @@
 // One item at a time, at a place in the payload that the caller keeps.
 ghost use mathlib.Core.Path.{_≡_};
 ghost use mathlib.Core.Bool as Bool;
-ghost use Rattle.items.specs.Items.{kindOf, badBeat, itemAt, bareItemAt, sealedItem, typeOf};
+ghost use Prim.Native.Nat.{_≤_};
+ghost use Rattle.items.specs.Items.{kindOf, kindCode, badBeat, cutAt, itemAt, bareItemAt, sealedItem, typeOf};
 use base::Limit;
 use base::Refusal;
 use base::wide;
@@ -21,14 +22,14 @@ pub struct Item {
     pub value: Run,
 }
 
-// What stands at a place, and the place behind it.
+// What stands at a place, and the place behind it: whoever goes on from there comes to the end.
 pub enum ItemRead {
     Kept { item: Item, next: usize },
     // A heartbeat whose length is no multiple of 6.
     Skipped { item: Item, next: usize },
     // The payload's end cuts a header or a value: the tail, nothing of which is kept.
-    Cut(Run),
-    End,
+    Cut { tail: Run, next: usize },
+    End { next: usize },
     Refused(u8),
 }
 
@@ -60,28 +61,36 @@ fn bad_beat(is_event: bool, tag: u8, n: u8) -> bool
     false
 }
 
+// What the end of a payload of n bytes cuts: all from a place on.
+fn cut_at(n: usize, at: usize) -> ItemRead
+    requires { ⌜ at ≤ n ⌝ }
+    ensures { λ r. ⌜ r ≡ cutAt n at ⌝ }
+{
+    ItemRead::Cut {
+        tail: Run {
+            start: at,
+            len: n - at,
+        },
+        next: n,
+    }
+}
+
 // For the crates above, which have their own limits: a payload of any length.
 pub fn next_item(payload: &[u8], at: usize, is_event: bool) -> ItemRead
     ensures { λ r. ⌜ r ≡ itemAt «is_event» (now (payload .entry)) at ⌝ }
 {
     let n = payload.len();
     if n <= at {
-        return ItemRead::End;
+        return ItemRead::End { next: n };
     }
     if n - at < 2 {
-        return ItemRead::Cut(Run {
-            start: at,
-            len: n - at,
-        });
+        return cut_at(n, at);
     }
     let tag = payload[at];
     let size = payload[at + 1];
     let len = wide(size);
     if n - at - 2 < len {
-        return ItemRead::Cut(Run {
-            start: at,
-            len: n - at,
-        });
+        return cut_at(n, at);
     }
     let next = at + 2 + len;
     let item = Item {
@@ -93,6 +102,27 @@ pub fn next_item(payload: &[u8], at: usize, is_event: bool) -> ItemRead
         return ItemRead::Skipped { item, next };
     }
     ItemRead::Kept { item, next }
+}
+
+impl ItemKind {
+    // The kinds as numbers, of items that are read and of those that a caller composes: a heartbeat in bytes, any other value in bytes, and a
+    // path in lists of its entries, which is a heartbeat that was not read.
+    pub const HEARTBEAT: u8 = 1;
+
+    pub const PROPRIETARY: u8 = 2;
+
+    pub const PATH: u8 = 3;
+
+    // 0 of a sealed run, which no list has.
+    pub fn to_byte(self) -> u8
+        ensures { λ r. ⌜ r ≡ kindCode self ⌝ }
+    {
+        match self {
+            ItemKind::Encrypted => 0,
+            ItemKind::Heartbeat => ItemKind::HEARTBEAT,
+            ItemKind::Proprietary => ItemKind::PROPRIETARY,
+        }
+    }
 }
 
 impl Event {

@@ -54,13 +54,13 @@ module _ (ev : Bool) (s : List ℕ) (p : ℕ) where
   unfolding keptWire
   skipped-ahead i nx e = ap (keptWire ev) (turn ev s p _ e .3)
 
-  pub cut-ahead : (r : Run) → itemAt ev s p ≡ Cut r → keptWire ev (pieces ev 0 (drop p s)) ≡ []
+  pub cut-ahead : (r : Run) (nx : ℕ) → itemAt ev s p ≡ Cut r nx → keptWire ev (pieces ev 0 (drop p s)) ≡ []
   unfolding keptWire
-  cut-ahead r e = ap (keptWire ev) (turn ev s p _ e .2)
+  cut-ahead r nx e = ap (keptWire ev) (turn ev s p _ e .3)
 
-  pub end-ahead : itemAt ev s p ≡ End → keptWire ev (pieces ev 0 (drop p s)) ≡ []
+  pub end-ahead : (nx : ℕ) → itemAt ev s p ≡ End nx → keptWire ev (pieces ev 0 (drop p s)) ≡ []
   unfolding keptWire
-  end-ahead e = ap (keptWire ev) (turn ev s p _ e .1)
+  end-ahead nx e = ap (keptWire ev) (turn ev s p _ e .2)
 
 -- ---- the loop: what is still to be laid is the kept items from `p` on
 
@@ -98,8 +98,8 @@ module _ (ev : Bool) (s o₀ : List ℕ) (at : ℕ) (out : List ℕ) (p o : ℕ)
       let u = turn ev s p _ e in
       record { within = u .2; laid = rw (skipped-ahead ev s p i nx e) at (f .laid) }
 
-  pub at-cut : (r : Run) → itemAt ev s p ≡ Cut r → out ≡ put o₀ at (openBytes ev s)
-  at-cut r e = joining-done _ _ _ _ _ _ (f .laid) (cut-ahead ev s p r e)
+  pub at-cut : (r : Run) (nx : ℕ) → itemAt ev s p ≡ Cut r nx → out ≡ put o₀ at (openBytes ev s)
+  at-cut r nx e = joining-done _ _ _ _ _ _ (f .laid) (cut-ahead ev s p r nx e)
 
-  pub at-end : itemAt ev s p ≡ End → out ≡ put o₀ at (openBytes ev s)
-  at-end e = joining-done _ _ _ _ _ _ (f .laid) (end-ahead ev s p e)
+  pub at-end : (nx : ℕ) → itemAt ev s p ≡ End nx → out ≡ put o₀ at (openBytes ev s)
+  at-end nx e = joining-done _ _ _ _ _ _ (f .laid) (end-ahead ev s p nx e)

@@ -99,8 +99,8 @@ pub fn put_kept(is_event: bool, payload: &[u8], out: &mut [u8], at: usize)
             ItemRead::Skipped { item: _, next } => {
                 p = next;
             }
-            ItemRead::Cut(_) => return,
-            ItemRead::End => return,
+            ItemRead::Cut { tail: _, next: _ } => return,
+            ItemRead::End { next: _ } => return,
             ItemRead::Refused(_) => return,
         }
     }

@@ -20,10 +20,8 @@ use Rattle.fields.specs.declared.meta.UplinkMetadata.{UplinkMetadata}
 use Rattle.fields.specs.declared.meta.DownlinkMetadata.{DownlinkMetadata}
 use Rattle.fields.specs.declared.path.RelayPath.{RelayPath}
 use Rattle.heartbeats.specs.declared.heartbeat.HeartbeatPayload.{HeartbeatPayload}
-use Rattle.items.specs.Items.{Found, keptItem, skippedItem, cutTail, noItem}
+use Rattle.items.specs.Items.{kindCode, Found, keptItem, skippedItem, cutTail, noItem}
 use Rattle.items.specs.declared.item.Item.{Item}
-use Rattle.items.specs.declared.item.ItemKind.{ItemKind}
-use Rattle.items.specs.declared.item.ItemKind.the-variants.{Encrypted, Heartbeat, Proprietary}
 use Rattle.items.specs.declared.count.Opening.{Opening}
 use Rattle.bodies.specs.Body.{Lent}
 use Rattle.bodies.specs.Open.{Told, told, wasOpen}
@@ -88,20 +86,15 @@ downList m = m .«uplink_id» ∷ m .dr ∷ m .frequency ∷ m .«tx_power» ∷
 abbrev pub countList : Opening → List ℕ
 countList o = o .kept ∷ o .skipped ∷ o .«kept_bytes» ∷ o .«skipped_bytes» ∷ o .«cut_bytes» ∷ bit (o .clean) ∷ []
 
-abbrev pub kindNumber : ItemKind → ℕ
-kindNumber Encrypted = 0
-kindNumber Heartbeat = 1
-kindNumber Proprietary = 2
-
 abbrev pub itemList : ℕ → Item → ℕ → List ℕ
-itemList what i next = what ∷ kindNumber (i .kind) ∷ i .tag ∷ i .value .start ∷ i .value .len ∷ next ∷ []
+itemList what i next = what ∷ kindCode (i .kind) ∷ i .tag ∷ i .value .start ∷ i .value .len ∷ next ∷ []
 
 -- what was found, its kind and tag, place and length of its value or of the tail, and the place behind it
 abbrev pub foundList : Found → List ℕ
-foundList noItem = 0 ∷ 0 ∷ 0 ∷ 0 ∷ 0 ∷ 0 ∷ []
+foundList (noItem next) = 0 ∷ 0 ∷ 0 ∷ 0 ∷ 0 ∷ next ∷ []
 foundList (keptItem i next) = itemList 1 i next
 foundList (skippedItem i next) = itemList 2 i next
-foundList (cutTail r) = 3 ∷ 0 ∷ 0 ∷ r .start ∷ r .len ∷ 0 ∷ []
+foundList (cutTail r next) = 3 ∷ 0 ∷ 0 ∷ r .start ∷ r .len ∷ next ∷ []
 
 abbrev pub entriesIn : HeartbeatPayload → ℕ
 entriesIn h = h .entries

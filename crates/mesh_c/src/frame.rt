@@ -30,6 +30,7 @@ use flat::Flat;
 use flat::from_u8;
 use flat::from_u16;
 use flat::from_u32;
+use flat::strange_body;
 use hops::set_hop_count;
 use mic::Validated;
 use mic::set_mic;
@@ -869,6 +870,9 @@ pub extern "C" fn mesh_record(
     ensures answer { λ r. ⌜ r ≡ numberIn (meshSays (meshFrom (flatBy kind «payload_type» «hop_count» «has_mic» mic «relay_id» «uplink_id» dr rssi snr channel frequency «tx_power» delay timestamp body start len))) ⌝ }
     ensures known { λ _. ⌜ now (known .exit) ≡ leftBy recordIn (now (known .entry)) (meshSays (meshFrom (flatBy kind «payload_type» «hop_count» «has_mic» mic «relay_id» «uplink_id» dr rssi snr channel frequency «tx_power» delay timestamp body start len))) ⌝ }
 {
+    if strange_body(kind, body) {
+        return Refusal::TYPE_LARGE;
+    }
     if PayloadType::COMMAND < kind {
         return Refusal::TYPE_LARGE;
     }

@@ -6,7 +6,7 @@ ghost use Rattle.composed.specs.Composed.{paths};
 ghost use Rattle.paths.specs.Paths.{pathsIn};
 ghost use Rattle.items.specs.Items.{countsOf, countsSay, bareItemAt, itemSays};
 ghost use Rattle.seal.specs.Stream.{sealedOf};
-ghost use Rattle.mesh_c.specs.Face.{asItIs, countList, kindNumber, itemList, foundList, entriesIn, entryRelay, entryRssi, entrySnr};
+ghost use Rattle.mesh_c.specs.Face.{asItIs, countList, itemList, foundList, entriesIn, entryRelay, entryRssi, entrySnr};
 use aes128::Aes128Key;
 use base::Written;
 use flat::from_bool;
@@ -17,7 +17,6 @@ use heartbeats::PathRead;
 use items::Command;
 use items::Event;
 use items::Item;
-use items::ItemKind;
 use items::ItemRead;
 use items::Opening;
 use items::OpeningRead;
@@ -113,16 +112,6 @@ fn decoded(is_event: bool, payload: &[u8], at: usize) -> ItemRead
     Command::decode(payload, at)
 }
 
-fn kind_number(kind: ItemKind) -> u64
-    ensures { λ r. ⌜ r ≡ kindNumber kind ⌝ }
-{
-    match kind {
-        ItemKind::Encrypted => 0,
-        ItemKind::Heartbeat => 1,
-        ItemKind::Proprietary => 2,
-    }
-}
-
 fn item_numbers(what: u64, item: Item, next: usize) -> [u64; 6]
     ensures { λ r. ⌜ r ≡ itemList what item next ⌝ }
 {
@@ -130,7 +119,7 @@ fn item_numbers(what: u64, item: Item, next: usize) -> [u64; 6]
     let value = item.value;
     [
         what,
-        kind_number(kind),
+        from_u8(kind.to_byte()),
         from_u8(item.tag),
         value.start as u64,
         value.len as u64,
@@ -138,8 +127,8 @@ fn item_numbers(what: u64, item: Item, next: usize) -> [u64; 6]
     ]
 }
 
-// What stands at a place of a clear payload: 0, or 5. In `item`: 0 the end, 1 an item, 2 a skipped heartbeat, 3 a cut tail; then its kind (1 a
-// heartbeat, 2 any other), its tag, place and length of its value, and the place behind it.
+// What stands at a place of a clear payload: 0, or 5. In `item`: 0 the end, 1 an item, 2 a skipped heartbeat, 3 a cut tail; then its kind as
+// `ItemKind` has it, its tag, place and length of its value, and the place behind it, which of a cut tail and of the end is the payload's length.
 #[no_mangle]
 pub extern "C" fn mesh_item(is_event: bool, payload: &[u8], at: u64, item: &mut [u64; 6]) -> u8
     ensures answer { λ r. ⌜ r ≡ numberIn (itemSays (bareItemAt «is_event» (now (payload .entry)) at)) ⌝ }
@@ -147,12 +136,12 @@ pub extern "C" fn mesh_item(is_event: bool, payload: &[u8], at: u64, item: &mut 
 {
     match decoded(is_event, payload, at as usize) {
         ItemRead::Refused(n) => n,
-        ItemRead::End => {
-            *item = [0, 0, 0, 0, 0, 0];
+        ItemRead::End { next } => {
+            *item = [0, 0, 0, 0, 0, next as u64];
             0
         }
-        ItemRead::Cut(tail) => {
-            *item = [3, 0, 0, tail.start as u64, tail.len as u64, 0];
+        ItemRead::Cut { tail, next } => {
+            *item = [3, 0, 0, tail.start as u64, tail.len as u64, next as u64];
             0
         }
         ItemRead::Kept { item: it, next } => {

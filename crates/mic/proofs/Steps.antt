@@ -28,7 +28,8 @@ use Rattle.base.proofs.Answers.{is-refused, not-refused}
 use Rattle.fields.specs.Header.{headerByte}
 use Rattle.fields.specs.declared.header.HeaderByte.{HeaderByte}
 use Rattle.fields.specs.declared.header.HeaderByte.the-variants.{Byte, Refused as NoByte}
-use Rattle.packets.specs.Write.{payloadWire, behind, messageOf}
+use Rattle.packets.specs.Write.{payloadWire, kindsIn, behind}
+use Rattle.packets.proofs.Laws.{message-strange, message-known}
 use Rattle.packets.specs.declared.mesh.MeshPacket.{MeshPacket}
 use Rattle.packets.specs.declared.mesh.MeshRead.the-variants.{Mesh, Refused as NotSigned}
 use Rattle.mic.specs.Mic.{micOf, fitting, signedOf, carryingMic, signedBy, setMic, comparedBy, validateMic}
@@ -62,15 +63,24 @@ module _ (E : List ℕ → List ℕ) where
       let g : 8188 < length (first ∷ (h ++ p)) = omega arith in
       simp (lt-ltb 8188 (length (first ∷ (h ++ p))) g)
 
-  -- 6, 7, and otherwise what stands behind the byte
-  pub header-refused : (n : ℕ) (l : Lent) (p : MeshPacket) → NoByte n ≡ headerByte (p .mhdr) → Refused n ≡ madeOf E (signedOf l p)
-  unfolding signedOf messageOf fitting madeOf
-  header-refused n l p e = rw (← e) refl
+  module _ (l : Lent) (p : MeshPacket) (k : ℕ) (known : k ≡ kindsIn l p) where
+    -- 29
+    pub kinds-refused : (k ≡ 0 → ⊥) → Refused k ≡ madeOf E (signedOf l p)
+    unfolding signedOf fitting madeOf
+    kinds-refused h = rw (message-strange l p k known h) refl
 
-  pub header-byte : (b : ℕ) (l : Lent) (p : MeshPacket) (f : Frame) (r : Made) → Byte b ≡ headerByte (p .mhdr) → payloadWire l (p .payload) ≡ f
-      → r ≡ madeOf E (fitting (prefixed b f)) → r ≡ madeOf E (signedOf l p)
-  unfolding signedOf messageOf
-  header-byte b l p f r e q h = h ∙ sym (ap₂ (λ (x : HeaderByte) (y : Frame). madeOf E (fitting (behind x y))) (sym e) q)
+    module _ (z : k ≡ 0) where
+      -- 6, 7, and otherwise what stands behind the byte
+      pub header-refused : (n : ℕ) → NoByte n ≡ headerByte (p .mhdr) → Refused n ≡ madeOf E (signedOf l p)
+      unfolding signedOf fitting madeOf
+      header-refused n e = rw (message-known l p k known z, ← e) refl
+
+      pub header-byte : (b : ℕ) (f : Frame) (r : Made) → Byte b ≡ headerByte (p .mhdr) → payloadWire l (p .payload) ≡ f
+          → r ≡ madeOf E (fitting (prefixed b f)) → r ≡ madeOf E (signedOf l p)
+      unfolding signedOf
+      header-byte b f r e q h =
+          h ∙ sym (ap₂ (λ (x : HeaderByte) (y : Frame). madeOf E (fitting (behind x y))) (sym e) q)
+          ∙ sym (ap (λ (x : Frame). madeOf E (fitting x)) (message-known l p k known z))
 
 -- ---- a body behind its head
 
@@ -125,10 +135,6 @@ module _ (E : List ℕ → List ℕ) (l : Lent) (p : MeshPacket) where
   unfolding setMic
   set-made r m e g = set-mic-by (signedOf l p) m (sym g ∙ e)
 
-  pub no-mic : p .«has_mic» ≡ false → NotValidated micMissing ≡ validateMic E l p
-  unfolding validateMic
-  no-mic e = simp e
-
   compared-no : (f : Frame) (k : ℕ) → Refused k ≡ madeOf E f → NotValidated k ≡ comparedBy E (p .mic) f
   unfolding madeOf
   compared-no (refused n) k e = ap NotValidated (let q : k ≡ n = cc in q)
@@ -139,17 +145,27 @@ module _ (E : List ℕ → List ℕ) (l : Lent) (p : MeshPacket) where
   compared-as (refused n) m e = let z : _≡_ {A = ℕ} 0 1 = cc in absurd (omega arith)
   compared-as (bytes w) m e = ap (λ (x : ℕ). pick (eqb (p .mic) x) Valid Invalid) (let q : m ≡ micOf E w = cc in q)
 
-  module _ (has : p .«has_mic» ≡ true) (r : Made) (e : r ≡ madeOf E (signedOf l p)) where
-    pub not-validated : (k : ℕ) → r ≡ Refused k → NotValidated k ≡ validateMic E l p
+  module _ (k : ℕ) (known : k ≡ kindsIn l p) where
+    pub kinds-first : (k ≡ 0 → ⊥) → NotValidated k ≡ validateMic E l p
     unfolding validateMic
-    not-validated k g = compared-no (signedOf l p) k (sym g ∙ e) ∙ simp has
+    kinds-first h = rw (← known) (simp (ne-eqb k 0 h))
 
-    validated-as : (m : ℕ) → r ≡ Mic m → pick (eqb (p .mic) m) Valid Invalid ≡ validateMic E l p
-    unfolding validateMic
-    validated-as m g = compared-as (signedOf l p) m (sym g ∙ e) ∙ simp has
+    module _ (z : k ≡ 0) where
+      pub no-mic : p .«has_mic» ≡ false → NotValidated micMissing ≡ validateMic E l p
+      unfolding validateMic
+      no-mic e = rw (← known) (simp (eq-eqb k 0 z, e))
 
-    pub valid : (m : ℕ) → r ≡ Mic m → p .mic ≡ m → Valid ≡ validateMic E l p
-    valid m g q = ap (λ (t : Bool). pick t Valid Invalid) (sym (eq-eqb (p .mic) m q)) ∙ validated-as m g
+      module _ (has : p .«has_mic» ≡ true) (r : Made) (e : r ≡ madeOf E (signedOf l p)) where
+        pub not-validated : (n : ℕ) → r ≡ Refused n → NotValidated n ≡ validateMic E l p
+        unfolding validateMic
+        not-validated n g = compared-no (signedOf l p) n (sym g ∙ e) ∙ rw (← known) (simp (eq-eqb k 0 z, has))
 
-    pub invalid : (m : ℕ) → r ≡ Mic m → (p .mic ≡ m → ⊥) → Invalid ≡ validateMic E l p
-    invalid m g q = ap (λ (t : Bool). pick t Valid Invalid) (sym (ne-eqb (p .mic) m q)) ∙ validated-as m g
+        validated-as : (m : ℕ) → r ≡ Mic m → pick (eqb (p .mic) m) Valid Invalid ≡ validateMic E l p
+        unfolding validateMic
+        validated-as m g = compared-as (signedOf l p) m (sym g ∙ e) ∙ rw (← known) (simp (eq-eqb k 0 z, has))
+
+        pub valid : (m : ℕ) → r ≡ Mic m → p .mic ≡ m → Valid ≡ validateMic E l p
+        valid m g q = ap (λ (t : Bool). pick t Valid Invalid) (sym (eq-eqb (p .mic) m q)) ∙ validated-as m g
+
+        pub invalid : (m : ℕ) → r ≡ Mic m → (p .mic ≡ m → ⊥) → Invalid ≡ validateMic E l p
+        invalid m g q = ap (λ (t : Bool). pick t Valid Invalid) (sym (ne-eqb (p .mic) m q)) ∙ validated-as m g

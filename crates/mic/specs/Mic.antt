@@ -1,6 +1,6 @@
 -- Signing and validating. The MIC is the first four bytes of the CMAC over header byte and body as the writer writes them, as one number.
--- Signing refuses in the writing order without 27 and 21: 6, 7, 45, body fields, 19, 20, 5. Validating: 27, then as signing. Over any block
--- cipher E. Assumes nothing.
+-- Signing refuses in the writing order without 27 and 21: 29, 6, 7, 45, body fields, 19, 20, 5. Validating: 29, 27, then as signing. Over
+-- any block cipher E. Assumes nothing.
 use Prim.Native.Nat.{ℕ}
 use mathlib.Core.Bool.{Bool, true, false}
 use mathlib.Core.List.{List}
@@ -12,7 +12,7 @@ use Rattle.base.specs.Answers.{Answer, value, number, Frame, bytes, refused}
 use Rattle.wire.specs.Number.{beOf}
 use Rattle.cmac.specs.Cmac.{tag}
 use Rattle.bodies.specs.Body.{Lent}
-use Rattle.packets.specs.Write.{messageOf}
+use Rattle.packets.specs.Write.{kindsIn, messageOf}
 use Rattle.packets.specs.declared.mesh.MeshPacket.{MeshPacket}
 use Rattle.packets.specs.declared.mesh.MeshRead.{MeshRead}
 use Rattle.packets.specs.declared.mesh.MeshRead.the-variants.{Mesh, Refused as NotSigned}
@@ -48,7 +48,10 @@ comparedBy E m (refused n) = Refused n
 comparedBy E m (bytes w) = pick (eqb m (micOf E w)) Valid Invalid
 
 unfoldable pub validateMic : (List ℕ → List ℕ) → Lent → MeshPacket → Validated
-validateMic E l p = pick (p .«has_mic») (comparedBy E (p .mic) (signedOf l p)) (Refused micMissing)
+validateMic E l p =
+    pick (eqb (kindsIn l p) 0)
+    (pick (p .«has_mic») (comparedBy E (p .mic) (signedOf l p)) (Refused micMissing))
+    (Refused (kindsIn l p))
 
 -- document 01's number, or whether it is valid
 abbrev pub validSays : Validated → Answer Bool

@@ -97,7 +97,7 @@ fn sign_downlink(p: DownlinkPayload, key: Aes128Key, first: u8, frame: &[u8]) ->
     }
 }
 
-// A head and an event's or a command's body behind the header byte: 45, path entries, 19, 20, 5.
+// A head and an event's or a command's body behind the header byte: 29, 45, path entries, 19, 20, 5.
 fn sign_body<'a>(
     key: Aes128Key,
     first: u8,
@@ -144,7 +144,7 @@ fn sign_body<'a>(
     Made::Mic(number(all.finish(&e)))
 }
 
-// 6, 7, 45, body fields, 19, 20, 5.
+// 29, 6, 7, 45, body fields, 19, 20, 5.
 fn make<'a>(
     p: MeshPacket,
     key: Aes128Key,
@@ -160,6 +160,10 @@ fn make<'a>(
 {
     let mhdr = p.mhdr;
     let payload = p.payload;
+    let strange = payload.kinds_refusal(kinds, spans);
+    if strange != 0 {
+        return Made::Refused(strange);
+    }
     match mhdr.to_byte() {
         HeaderByte::Refused(n) => Made::Refused(n),
         HeaderByte::Byte(b) => match payload {
@@ -232,7 +236,7 @@ pub fn set_mic<'a>(
     }
 }
 
-// 27, then as signing.
+// 29, 27, then as signing.
 pub fn validate_mic<'a>(
     p: MeshPacket,
     key: Aes128Key,
@@ -246,6 +250,11 @@ pub fn validate_mic<'a>(
 ) -> Validated
     ensures { λ r. ⌜ r ≡ validateMic (aes (key .0)) (lent (now (frame .entry)) (now (work .entry)) (now (kinds .entry)) (now (spans .entry)) (now (ids .entry)) (now (rssis .entry)) (now (snrs .entry))) p ⌝ }
 {
+    let payload = p.payload;
+    let strange = payload.kinds_refusal(kinds, spans);
+    if strange != 0 {
+        return Validated::Refused(strange);
+    }
     if !p.has_mic {
         return Validated::Refused(Refusal::MIC_MISSING);
     }

@@ -1,6 +1,6 @@
 -- The steps that the writers' proofs share. Assumes nothing.
 use Prim.Native.Nat.{ℕ, _≤_, _<_}
-use mathlib.Core.Path.{_≡_, refl, sym, ap₂}
+use mathlib.Core.Path.{_≡_, refl, sym, ap, ap₂, _∙_}
 use mathlib.Core.List.{List}
 use lib.ListN.{length}
 use borrow.Author.Tests.{lt-ltb, le-ltb, eq-eqb, ne-eqb}
@@ -14,19 +14,29 @@ use Rattle.wire.specs.Run.{runRefusal, runBytes}
 use Rattle.wire.specs.declared.run.Run.{Run}
 use Rattle.payloads.specs.Write.{prefixed, withMic}
 use Rattle.payloads.proofs.Steps.{Outcome}
-use Rattle.packets.specs.Write.{behind, payloadWire, messageOf, meshFrame, loraFrame}
+use Rattle.packets.specs.Write.{behind, payloadWire, kindsIn, meshFrame, loraFrame}
 use Rattle.packets.specs.declared.mesh.MeshPacket.{MeshPacket}
+use Rattle.packets.proofs.Laws.{message-strange, message-known}
 
--- 6 and 7
-pub header-refused : (n : ℕ) (s : Lent) (p : MeshPacket) (o : List ℕ) → NoByte n ≡ headerByte (p .mhdr) → Outcome (Refused n) o (meshFrame s p) o
-unfolding meshFrame messageOf withMic answerOf outOf
-header-refused n s p o e = rw (← e) (refl, refl)
+module _ (s : Lent) (p : MeshPacket) (k : ℕ) (known : k ≡ kindsIn s p) where
+  -- 29
+  pub kinds-refused : (o : List ℕ) → (k ≡ 0 → ⊥) → Outcome (Refused k) o (meshFrame s p) o
+  unfolding meshFrame withMic answerOf outOf
+  kinds-refused o h = rw (message-strange s p k known h) (refl, refl)
 
--- and otherwise what stands behind the byte
-pub header-byte : (b : ℕ) (s : Lent) (p : MeshPacket) (f : Frame) → Byte b ≡ headerByte (p .mhdr) → payloadWire s (p .payload) ≡ f
-    → meshFrame s p ≡ withMic (p .«has_mic») (p .mic) (prefixed b f)
-unfolding meshFrame messageOf
-header-byte b s p f e q = ap₂ (λ (x : HeaderByte) (y : Frame). withMic (p .«has_mic») (p .mic) (behind x y)) (sym e) q
+  module _ (z : k ≡ 0) where
+    -- 6 and 7
+    pub header-refused : (n : ℕ) (o : List ℕ) → NoByte n ≡ headerByte (p .mhdr) → Outcome (Refused n) o (meshFrame s p) o
+    unfolding meshFrame withMic answerOf outOf
+    header-refused n o e = rw (message-known s p k known z, ← e) (refl, refl)
+
+    -- and otherwise what stands behind the byte
+    pub header-byte : (b : ℕ) (f : Frame) → Byte b ≡ headerByte (p .mhdr) → payloadWire s (p .payload) ≡ f
+        → meshFrame s p ≡ withMic (p .«has_mic») (p .mic) (prefixed b f)
+    unfolding meshFrame
+    header-byte b f e q =
+        ap (withMic (p .«has_mic») (p .mic)) (message-known s p k known z)
+        ∙ ap₂ (λ (x : HeaderByte) (y : Frame). withMic (p .«has_mic») (p .mic) (behind x y)) (sym e) q
 
 -- a LoRa frame: outside, too long, and its bytes
 module _ (k : ℕ) (s : List ℕ) (r : Run) where

@@ -1,6 +1,7 @@
--- Frames written: the bytes, or the first refusal in the order 6, 7, 45, body fields, 19, 20, 27, 5; 21 comes after, with the lent output.
--- Assumes nothing.
+-- Frames written: the bytes, or the first refusal in the order 29, 6, 7, 45, body fields, 19, 20, 27, 5; 21 comes after, with the lent
+-- output. Assumes nothing.
 use Prim.Native.Nat.{ℕ}
+use mathlib.Core.Bool.{true, false}
 use mathlib.Core.List.{List}
 use lib.Dec.{ltb}
 use lib.ListN.{length}
@@ -11,7 +12,7 @@ use Rattle.fields.specs.Header.{headerByte}
 use Rattle.fields.specs.declared.header.HeaderByte.{HeaderByte}
 use Rattle.fields.specs.declared.header.HeaderByte.the-variants.{Byte, Refused as NoByte}
 use Rattle.wire.specs.Run.{runRefusal, runBytes}
-use Rattle.bodies.specs.Body.{Lent}
+use Rattle.bodies.specs.Body.{Lent, bodyKinds}
 use Rattle.payloads.specs.Write.{prefixed, withMic, uplinkWire, downlinkWire}
 use Rattle.events.specs.Write.{eventWire, commandWire}
 use Rattle.wire.specs.declared.run.Run.{Run}
@@ -28,13 +29,23 @@ payloadWire l (Downlink p) = downlinkWire (l .frame) p
 payloadWire l (Event p) = eventWire l p
 payloadWire l (Command p) = commandWire l p
 
+-- 29 of an event's or a command's composed items, by their kinds alone
+unfoldable pub payloadKinds : List (List ℕ) → List (List ℕ) → Payload → ℕ
+payloadKinds kinds spans (Uplink p) = 0
+payloadKinds kinds spans (Downlink p) = 0
+payloadKinds kinds spans (Event p) = bodyKinds true kinds spans (p .events)
+payloadKinds kinds spans (Command p) = bodyKinds false kinds spans (p .commands)
+
+abbrev pub kindsIn : Lent → MeshPacket → ℕ
+kindsIn l p = payloadKinds (l .lists .kinds) (l .lists .spans) (p .payload)
+
 abbrev pub behind : HeaderByte → Frame → Frame
 behind (NoByte n) f = refused n
 behind (Byte b) f = prefixed b f
 
 -- header byte and body: what is signed, and what stands before the MIC
 unfoldable pub messageOf : Lent → MeshPacket → Frame
-messageOf l p = behind (headerByte (p .mhdr)) (payloadWire l (p .payload))
+messageOf l p = unlessRefused (kindsIn l p) (behind (headerByte (p .mhdr)) (payloadWire l (p .payload)))
 
 unfoldable pub meshFrame : Lent → MeshPacket → Frame
 meshFrame l p = withMic (p .«has_mic») (p .mic) (messageOf l p)

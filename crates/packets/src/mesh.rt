@@ -3,7 +3,7 @@
 ghost use mathlib.Core.Path.{_≡_};
 ghost use Rattle.base.specs.Answers.{answerOf, outOf};
 ghost use Rattle.packets.specs.Read.{payloadAt, meshOf};
-ghost use Rattle.packets.specs.Write.{meshFrame};
+ghost use Rattle.packets.specs.Write.{payloadKinds, meshFrame};
 ghost use Rattle.packets.specs.Seal.{carrying, nothingToOpen, sealOf, meshSealed, ofEventOpened, ofCommandOpened, meshDecrypted, meshWork, meshDecoded};
 ghost use Rattle.bodies.specs.Body.{lent};
 use aes128::Aes128Key;
@@ -85,6 +85,26 @@ fn read_body(t: PayloadType, b: &[u8]) -> PayloadRead
     }
 }
 
+impl Payload {
+    // 29 where a composed item's kind is none, or is no value in a command; otherwise 0.
+    pub fn kinds_refusal(self, kinds: &[[u8; 2]], spans: &[[u32; 2]]) -> u8
+        ensures { λ r. ⌜ r ≡ payloadKinds (now (kinds .entry)) (now (spans .entry)) self ⌝ }
+    {
+        match self {
+            Payload::Uplink(_) => 0,
+            Payload::Downlink(_) => 0,
+            Payload::Event(p) => {
+                let b = p.events;
+                b.kinds_refusal(true, kinds, spans)
+            }
+            Payload::Command(p) => {
+                let b = p.commands;
+                b.kinds_refusal(false, kinds, spans)
+            }
+        }
+    }
+}
+
 impl MeshPacket {
     // Header byte and MIC.
     pub const LEAST: usize = 5;
@@ -120,8 +140,8 @@ impl MeshPacket {
         }
     }
 
-    // What is lent holds the payload: runs in the frame or the work buffer, composed items in the lists. 6, 7, 45, body fields, 19, 20, 27,
-    // 5, 21.
+    // What is lent holds the payload: runs in the frame or the work buffer, composed items in the lists. 29, 6, 7, 45, body fields, 19, 20,
+    // 27, 5, 21.
     pub fn write<'a>(
         self,
         frame: &'a [u8],
@@ -140,6 +160,10 @@ impl MeshPacket {
         let payload = self.payload;
         let has_mic = self.has_mic;
         let mic = self.mic;
+        let strange = payload.kinds_refusal(kinds, spans);
+        if strange != 0 {
+            return Written::Refused(strange);
+        }
         match mhdr.to_byte() {
             HeaderByte::Refused(n) => Written::Refused(n),
             HeaderByte::Byte(b) => match payload {
@@ -190,7 +214,7 @@ impl MeshPacket {
         }
     }
 
-    // An event's or a command's payload, sealed at the front of out: 45, path entries, 19, 20, 5, 21. Of an uplink or a downlink nothing.
+    // An event's or a command's payload, sealed at the front of out: 29, 45, path entries, 19, 20, 5, 21. Of an uplink or a downlink nothing.
     pub fn encrypt<'a>(
         self,
         key: Aes128Key,

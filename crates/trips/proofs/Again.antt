@@ -27,7 +27,8 @@ use Rattle.composed.specs.Composed.{Lists}
 use Rattle.trips.specs.Which.{framed}
 use Rattle.payloads.specs.Write.{withMic}
 use Rattle.packets.specs.Read.{bodyIn, payloadAt, withPayload, withHeader, meshOf}
-use Rattle.packets.specs.Write.{payloadWire, behind, messageOf, meshFrame}
+use Rattle.packets.specs.Write.{payloadWire, behind, meshFrame}
+use Rattle.packets.proofs.Laws.{message-is}
 use Rattle.packets.specs.declared.mesh.MeshPacket.{MeshPacket}
 use Rattle.packets.specs.declared.mesh.PayloadRead.{PayloadRead}
 use Rattle.packets.specs.declared.mesh.PayloadRead.the-variants.{Payload as PayloadIs, Refused as NoPayload}
@@ -88,7 +89,7 @@ last-four s i h n =
 -- written again: the same header byte, the body as it is written, and the same MIC
 pub read-written : (s : List ℕ) (x : Lists) (p : MeshPacket) (v : List ℕ) → Bytes s → meshOf s ≡ Mesh p → payloadWire (framed s x) (p .payload) ≡ bytes v → length v ≡ length s - 5
     → meshFrame (framed s x) p ≡ bytes ((getD s 0 0 ∷ v) ++ drop (length s - 4) s)
-unfolding meshFrame messageOf withMic
+unfolding meshFrame withMic
 read-written s x p v h e f n =
     let r = was-read s p e in
     let l = r .least in
@@ -97,6 +98,7 @@ read-written s x p v h e f n =
     let g : length (getD s 0 0 ∷ v) ≤ 8188 = omega arith in
     let q : length s ≡ length s - 4 + 4 = omega arith in
     let d : beBytes 4 (p .mic) ≡ drop (length s - 4) s = ap (beBytes 4) (r .mic) ∙ last-four s (length s - 4) h q in
-    ap₂ (λ (z : HeaderByte) (y : Frame). withMic (p .«has_mic») (p .mic) (behind z y)) b f
+    ap (withMic (p .«has_mic») (p .mic)) (message-is (framed s x) p v f)
+    ∙ ap₂ (λ (z : HeaderByte) (y : Frame). withMic (p .«has_mic») (p .mic) (behind z y)) b f
     ∙ ap (λ (t : Bool). withMic t (p .mic) (bytes (getD s 0 0 ∷ v))) (r .signed)
     ∙ simp (le-ltb 8188 (length (getD s 0 0 ∷ v)) g) (ap (λ (y : List ℕ). bytes ((getD s 0 0 ∷ v) ++ y)) d)

@@ -13,7 +13,8 @@ use Rattle.base.specs.Lists.{from, Bytes}
 use Rattle.base.specs.Answers.{Frame, bytes}
 use Rattle.base.proofs.Bytes.{take-lt, drop-lt}
 use Rattle.base.proofs.Lists.{from-same, listed}
-use Rattle.wire.specs.Part.{reachOf, partOf}
+use Rattle.wire.specs.Part.{reachNumber, partOf}
+use Rattle.wire.proofs.Laws.Part.{inside as lies-inside}
 use Rattle.fields.specs.Header.{headerOf, codeOf}
 use Rattle.fields.specs.declared.header.MHDR.{MHDR}
 use Rattle.fields.specs.declared.header.HeaderRead.the-variants.{Header}
@@ -77,13 +78,9 @@ front n s h =
     ∙ listed n (take n s) (length-take-le n s h)
 
 -- a run that lies inside
-inside-by : (n start len : ℕ) → start + len ≤ n → (t : Bool) → eqb len 0 ≡ t → runRefusal n (record { start = start; len = len }) ≡ 0
-unfolding runRefusal reachOf
-inside-by n start len h true e = simp e
-inside-by n start len h false e = simp (e, le-ltb n start (omega arith), le-ltb (n - start) len (omega arith))
-
 pub inside : (n start len : ℕ) → start + len ≤ n → runRefusal n (record { start = start; len = len }) ≡ 0
-inside n start len h = inside-by n start len h (eqb len 0) refl
+unfolding runRefusal
+inside n start len h = ap reachNumber (lies-inside n start len h)
 
 module _ (s : List ℕ) (least : 5 ≤ length s) where
   abbrev b : List ℕ

@@ -7,7 +7,7 @@ use mathlib.Core.Path.{_≡_, refl, sym, ap, _∙_}
 use mathlib.Core.List.{List, _∷_, _++_}
 use lib.ListN.{length, getD, length-append}
 use lib.Seq.{take-at, getD-append-add}
-use lib.Dec.{ltb}
+use lib.Dec.{ltb, eqb}
 use borrow.Author.Tests.{le-ltb, ne-eqb, ltb-false}
 use Rattle.base.specs.Pick.{pick}
 use Rattle.base.specs.Answers.{Frame, bytes, refused}
@@ -23,7 +23,7 @@ use Rattle.payloads.specs.Read.{fourAt}
 use Rattle.bodies.specs.Body.{Lent}
 use Rattle.payloads.specs.Write.{prefixed, withMic}
 use Rattle.packets.specs.Read.{bodyIn, payloadAt, withPayload, withHeader, meshOf}
-use Rattle.packets.specs.Write.{payloadWire, behind, messageOf, meshFrame}
+use Rattle.packets.specs.Write.{payloadWire, kindsIn, behind, messageOf, meshFrame}
 use Rattle.packets.specs.declared.mesh.MeshPacket.{MeshPacket}
 use Rattle.packets.specs.declared.mesh.PayloadRead.{PayloadRead}
 use Rattle.packets.specs.declared.mesh.PayloadRead.the-variants.{Payload as PayloadIs, Refused as NoPayload}
@@ -113,9 +113,14 @@ module _ (s : Lent) (p : MeshPacket) (w : List ℕ) where
   headed (NoByte n) h e = absurd (never n w e)
   headed (Byte b) h e = bodied b h (payloadWire s (p .payload)) refl e
 
+  known : (t : Bool) → withMic (p .«has_mic») (p .mic) (pick t (behind (headerByte (p .mhdr)) (payloadWire s (p .payload))) (refused (kindsIn s p))) ≡ bytes w → Made s p w
+  unfolding withMic
+  known true e = headed (headerByte (p .mhdr)) refl e
+  known false e = absurd (never (kindsIn s p) w e)
+
   pub made : meshFrame s p ≡ bytes w → Made s p w
   unfolding meshFrame messageOf
-  made e = headed (headerByte (p .mhdr)) refl e
+  made e = known (eqb (kindsIn s p) 0) e
 
   -- read again: the header as it was, the MIC as it was, and what the body is read as by the header's type
   pub written-read : meshFrame s p ≡ bytes w → p .mic < 4294967296

@@ -462,7 +462,7 @@ fn report(label: &[u8], r: OpeningRead) {
 }
 
 // The item at a place, and the place behind it.
-fn item(label: &[u8], end: usize, r: ItemRead) -> usize {
+fn item(label: &[u8], r: ItemRead) -> usize {
     say(label);
     match r {
         ItemRead::Kept { item, next } => {
@@ -480,19 +480,19 @@ fn item(label: &[u8], end: usize, r: ItemRead) -> usize {
             say(b"\n");
             next
         }
-        ItemRead::Cut(tail) => {
+        ItemRead::Cut { tail, next } => {
             plain(b"cut, at ", tail.start as u64);
             plain(b", bytes ", tail.len as u64);
             say(b"\n");
-            end
+            next
         }
-        ItemRead::End => {
+        ItemRead::End { next } => {
             say(b"end\n");
-            end
+            next
         }
         ItemRead::Refused(n) => {
             number(b"", n);
-            end
+            0
         }
     }
 }
@@ -500,14 +500,14 @@ fn item(label: &[u8], end: usize, r: ItemRead) -> usize {
 fn p11() {
     let p = b"\x01\x02\xaa\xbb\x00\x05\x01\x02\x03\x04\x05\x02\x00\x03\x09\xcc";
     report(b"P11 event                ", Event::count(p));
-    let a = item(b"P11 event, item 1        ", 16, Event::decode(p, 0));
-    let b = item(b"P11 event, item 2        ", 16, Event::decode(p, a));
-    let c = item(b"P11 event, item 3        ", 16, Event::decode(p, b));
-    let d = item(b"P11 event, item 4        ", 16, Event::decode(p, c));
-    item(b"P11 event, item 5        ", 16, Event::decode(p, d));
+    let a = item(b"P11 event, item 1        ", Event::decode(p, 0));
+    let b = item(b"P11 event, item 2        ", Event::decode(p, a));
+    let c = item(b"P11 event, item 3        ", Event::decode(p, b));
+    let d = item(b"P11 event, item 4        ", Event::decode(p, c));
+    item(b"P11 event, item 5        ", Event::decode(p, d));
     report(b"P11 command              ", Command::count(p));
-    let e = item(b"P11 command, item 1      ", 16, Command::decode(p, 0));
-    item(b"P11 command, item 2      ", 16, Command::decode(p, e));
+    let e = item(b"P11 command, item 1      ", Command::decode(p, 0));
+    item(b"P11 command, item 2      ", Command::decode(p, e));
 }
 
 // ---- P12: the cache

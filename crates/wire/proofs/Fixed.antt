@@ -20,8 +20,6 @@ use Rattle.wire.proofs.parts.reaches.Kinds as reaches-kinds
 use Rattle.wire.proofs.parts.reaches.Reads as reaches-reads
 use Rattle.wire.proofs.parts.part.Kinds as part-kinds
 use Rattle.wire.proofs.parts.part.Reads as part-reads
-use Rattle.wire.proofs.parts.checked_part.Kinds as checked-part-kinds
-use Rattle.wire.proofs.parts.checked_part.Reads as checked-part-reads
 use Rattle.wire.proofs.lay.put_all.Kinds as put-all-kinds
 use Rattle.wire.proofs.lay.put_all.Reads as put-all-reads
 use Rattle.wire.proofs.lay.emit.Kinds as emit-kinds
@@ -66,9 +64,6 @@ reaches κs a x y v w p q = (p ∙ sym q, refl)
 
 part : FixedPart 1 part-kinds.ps part-kinds.r part-reads.Post (λ κs x. now x)
 part κs a x y v w p q = (p ∙ sym q, refl)
-
-checked-part : FixedPart 2 checked-part-kinds.ps checked-part-kinds.r checked-part-reads.Post (λ κs x. now x)
-checked-part κs a x y v w p q = (p .0 ∙ sym (q .0), ap (λ (l : ℕ). (tt, (tt, (tt, (l, tt))))) (p .1 ∙ sym (q .1)))
 
 put-all : Fixed 2 put-all-kinds.ps put-all-kinds.r put-all-reads.Post
 put-all κs a x y v w p q = (refl, ap (λ (l : List ℕ). (tt, (l, (tt, tt)))) (p ∙ sym q))

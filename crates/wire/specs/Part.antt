@@ -1,16 +1,19 @@
 -- A part of a list at a place and length. Assumes nothing.
 use Prim.Native.Nat.{ℕ, _-_}
 use mathlib.Core.List.{List, []}
-use lib.Dec.{ltb}
+use lib.Dec.{ltb, eqb}
 use lib.ListN.{length, take, drop}
 use Rattle.base.specs.Pick.{pick}
 use Rattle.base.specs.Numbers.{outside}
 use Rattle.wire.specs.declared.parts.Reach.{Reach}
 use Rattle.wire.specs.declared.parts.Reach.the-variants.{Inside, Refused}
 
--- 45 where the place, or the place and length together, lie beyond n
+-- 45 where the place, or the place and length together, lie beyond n; no bytes lie inside whatever their place
 unfoldable pub reachOf : ℕ → ℕ → ℕ → Reach
-reachOf n start len = pick (ltb n start) (Refused outside) (pick (ltb (n - start) len) (Refused outside) Inside)
+reachOf n start len =
+    pick (eqb len 0) Inside
+    (pick (ltb n start) (Refused outside)
+    (pick (ltb (n - start) len) (Refused outside) Inside))
 
 -- document 01's number, or 0
 abbrev pub reachNumber : Reach → ℕ

@@ -19,7 +19,6 @@ pub use number::be24_of;
 pub use number::be32_bytes;
 pub use number::be32_of;
 pub use parts::Reach;
-pub use parts::checked_part;
 pub use parts::part;
 pub use parts::reaches;
 pub use run::Run;

@@ -1,7 +1,6 @@
-// A part of a slice at a place and length; 45 where it runs outside.
+// A part of a slice at a place and length; 45 where it runs outside. A part of no bytes is empty whatever its place.
 ghost use mathlib.Core.Path.{_≡_};
-ghost use lib.ListN.{length};
-ghost use Rattle.wire.specs.Part.{reachOf, partOf, reachNumber};
+ghost use Rattle.wire.specs.Part.{reachOf, partOf};
 use base::Refusal;
 
 pub enum Reach {
@@ -13,6 +12,9 @@ pub enum Reach {
 pub fn reaches(n: usize, start: usize, len: usize) -> Reach
     ensures { λ r. ⌜ r ≡ reachOf n start len ⌝ }
 {
+    if len == 0 {
+        return Reach::Inside;
+    }
     if n < start {
         return Reach::Refused(Refusal::OUTSIDE);
     }
@@ -33,23 +35,4 @@ pub fn part(s: &[u8], start: usize, len: usize) -> &[u8]
         return &s[..0];
     }
     &s[start..start + len]
-}
-
-// The refusal's number, or 0.
-fn number_of(r: Reach) -> u8
-    ensures { λ n. ⌜ n ≡ reachNumber r ⌝ }
-{
-    match r {
-        Reach::Inside => 0,
-        Reach::Refused(n) => n,
-    }
-}
-
-// Both in one call: the part, and 0 or the refusal in the lent number.
-pub fn checked_part<'a>(s: &'a [u8], start: usize, len: usize, refused: &mut u8) -> &'a [u8]
-    ensures part { λ r. ⌜ now r ≡ partOf (now (s .entry)) start len ⌝ }
-    ensures number { λ _. ⌜ now (refused .exit) ≡ reachNumber (reachOf (length (now (s .entry))) start len) ⌝ }
-{
-    *refused = number_of(reaches(s.len(), start, len));
-    part(s, start, len)
 }

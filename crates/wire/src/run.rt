@@ -1,4 +1,4 @@
-// Where a run of bytes lies: a place and a length in a lent slice. A run of no bytes is empty whatever its place.
+// Where a run of bytes lies: a place and a length in a lent slice.
 ghost use mathlib.Core.Path.{_≡_};
 ghost use lib.ListN.{length};
 ghost use Rattle.wire.specs.Part.{partOf};
@@ -17,11 +17,7 @@ impl Run {
     pub fn refusal(self, n: usize) -> u8
         ensures { λ r. ⌜ r ≡ runRefusal n self ⌝ }
     {
-        let len = self.len;
-        if len == 0 {
-            return 0;
-        }
-        match reaches(n, self.start, len) {
+        match reaches(n, self.start, self.len) {
             Reach::Inside => 0,
             Reach::Refused(k) => k,
         }

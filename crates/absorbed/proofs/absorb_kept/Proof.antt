@@ -36,10 +36,10 @@ loop-again-2 : tie.Need-loop-again-2 Inv-loop μ-loop
 loop-again-2 c = left-same _ _ _ _ _ (c .before .before .before .before .loop .inv) _ (skipped-ahead _ _ _ _ _ (sym (c .before .before .before .next-item .ensures) ∙ c .before .next .given .1))
 
 returns : tie.Need-returns Inv-loop μ-loop
-returns c = left-none _ _ _ _ _ (c .before .before .before .loop .inv) (cut-ahead _ _ _ _ (sym (c .before .before .next-item .ensures) ∙ c .enum-told .given .1))
+returns c = left-none _ _ _ _ _ (c .before .before .before .loop .inv) (cut-ahead _ _ _ _ _ (sym (c .before .before .next-item .ensures) ∙ c .enum-told .given .1))
 
 returns-2 : tie.Need-returns-2 Inv-loop μ-loop
-returns-2 c = left-none _ _ _ _ _ (c .before .before .before .loop .inv) (end-ahead _ _ _ (sym (c .before .before .next-item .ensures) ∙ c .enum-told2 .given .1))
+returns-2 c = left-none _ _ _ _ _ (c .before .before .before .loop .inv) (end-ahead _ _ _ _ (sym (c .before .before .next-item .ensures) ∙ c .enum-told2 .given .1))
 
 returns-3 : tie.Need-returns-3 Inv-loop μ-loop
 returns-3 c = absurd (turn _ _ _ _ (sym (c .before .before .next-item .ensures) ∙ c .enum-told3 .given .1))

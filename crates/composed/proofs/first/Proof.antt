@@ -1,9 +1,10 @@
 -- `composed::first` meets its contract. Assumes nothing.
 use Prim.Native.Nat.{_-_}
+use denote.Ref.{now}
 use Rattle.base.proofs.Lists.{Passed, passed-none}
 use Rattle.composed.specs.Composed.{lists, itemsIn}
 use Rattle.composed.specs.Passes.{faultOf}
-use Rattle.composed.proofs.Loops.{pass-more, pass-stop, pass-all}
+use Rattle.composed.proofs.Loops.{pass-more, pass-stop, each-all}
 use borrow.Author.Needs.{needs}
 use Rattle.composed.proofs.first.Statement.{statement}
 use Rattle.composed.proofs.first.Tie as tie
@@ -25,7 +26,10 @@ loop-again : tie.Need-loop-again Inv-loop μ-loop
 loop-again c = pass-more _ _ _ _ (c .before .before .before .before .before .item-count .ensures) _ _ (c .before .before .before .loop-test .taken) (c .before .before .item-at .ensures) _ _ (c .before .fault .ensures) (c .if1 .left) (c .before .before .before .before .loop .inv)
 
 returns-2 : tie.Need-returns-2 Inv-loop μ-loop
-returns-2 c = pass-all _ _ _ _ (c .before .before .item-count .ensures) _ _ (c .loop-test .left) (c .before .loop .inv)
+returns-2 c =
+    let a = c .before .before .before .before .before .args in
+    let l = lists (now (a .kinds)) (now (a .spans)) (now (a .ids)) (now (a .rssis)) (now (a .snrs)) (now (a .src)) in
+    each-all (a .is-event) (a .count) l _ (c .before .before .item-count .ensures) (faultOf (a .pass) (a .is-event) l) _ (c .loop-test .left) (c .before .loop .inv)
 
 pub first-spec : {M : Type 1} → statement M
 first-spec = tie.close (tie.spec Inv-loop μ-loop (λ c κs. tt) loop-holds (λ c κs. tt) (λ c κs. tt) returns (λ c. search needs) (λ c. search needs) loop-again returns-2)

@@ -58,13 +58,13 @@ same-length : tie.Need-same-length Inv-loop μ-loop
 same-length c = joining-same _ _ _ _ _ _ (c .before .before .before .loop .inv .laid)
 
 returns-3 : tie.Need-returns-3 Inv-loop μ-loop
-returns-3 c = at-cut _ _ _ _ _ _ _ (c .before .before .before .loop .inv) _ (sym (c .before .before .next-item .ensures) ∙ c .enum-told .given .1)
+returns-3 c = at-cut _ _ _ _ _ _ _ (c .before .before .before .loop .inv) _ _ (sym (c .before .before .next-item .ensures) ∙ c .enum-told .given .1)
 
 same-length-2 : tie.Need-same-length-2 Inv-loop μ-loop
 same-length-2 c = joining-same _ _ _ _ _ _ (c .before .before .before .loop .inv .laid)
 
 returns-4 : tie.Need-returns-4 Inv-loop μ-loop
-returns-4 c = at-end _ _ _ _ _ _ _ (c .before .before .before .loop .inv) (sym (c .before .before .next-item .ensures) ∙ c .enum-told2 .given .1)
+returns-4 c = at-end _ _ _ _ _ _ _ (c .before .before .before .loop .inv) _ (sym (c .before .before .next-item .ensures) ∙ c .enum-told2 .given .1)
 
 same-length-3 : tie.Need-same-length-3 Inv-loop μ-loop
 same-length-3 c = joining-same _ _ _ _ _ _ (c .before .before .before .loop .inv .laid)

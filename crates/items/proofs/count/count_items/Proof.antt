@@ -51,10 +51,10 @@ loop-again-2 : tie.Need-loop-again-2 Inv-loop μ-loop
 loop-again-2 c = one-skipped _ _ _ _ _ _ _ (c .before .before .before .before .loop .inv) _ _ (sym (c .before .before .before .next-item .ensures) ∙ c .before .next2 .given .1)
 
 returns : tie.Need-returns Inv-loop μ-loop
-returns c = at-cut _ _ _ _ _ _ _ (c .before .before .before .before .loop .inv) _ (sym (c .before .before .before .next-item .ensures) ∙ c .before .tail .given .1)
+returns c = at-cut _ _ _ _ _ _ _ (c .before .before .before .before .loop .inv) _ _ (sym (c .before .before .before .next-item .ensures) ∙ c .before .tail .given .1)
 
 returns-2 : tie.Need-returns-2 Inv-loop μ-loop
-returns-2 c = at-end _ _ _ _ _ _ _ (c .before .before .before .loop .inv) (sym (c .before .before .next-item .ensures) ∙ c .enum-told .given .1)
+returns-2 c = at-end _ _ _ _ _ _ _ (c .before .before .before .loop .inv) _ (sym (c .before .before .next-item .ensures) ∙ c .enum-told .given .1)
 
 returns-3 : tie.Need-returns-3 Inv-loop μ-loop
 returns-3 c = absurd (turn _ _ _ _ (sym (c .before .before .before .next-item .ensures) ∙ c .before .enum-told2 .given .1))

@@ -13,11 +13,11 @@ returns c = search picks
 
 returns-2 : tie.Need-returns-2
 unfolding itemAt
-returns-2 c = simp (lt-leb _ _ (c .before .if1 .left), lt-ltb _ _ (c .if2 .taken))
+returns-2 c = simp (lt-leb _ _ (c .before .before .if1 .left), lt-ltb _ _ (c .before .if2 .taken)) (c .cut-at .ensures)
 
 returns-3 : tie.Need-returns-3
 unfolding itemAt
-returns-3 c = simp (lt-leb _ _ (c .before .before .before .before .before .if1 .left), le-ltb _ _ (c .before .before .before .before .if2 .left), lt-ltb _ _ (rw (c .before .wide .ensures) at (c .if3 .taken)))
+returns-3 c = simp (lt-leb _ _ (c .before .before .before .before .before .before .if1 .left), le-ltb _ _ (c .before .before .before .before .before .if2 .left), lt-ltb _ _ (rw (c .before .before .wide .ensures) at (c .before .if3 .taken))) (c .cut-at2 .ensures)
 
 returns-4 : tie.Need-returns-4
 unfolding itemAt

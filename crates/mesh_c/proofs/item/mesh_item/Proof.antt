@@ -18,9 +18,9 @@ returns c =
 
 returns-2 : tie.Need-returns-2
 returns-2 c =
-    let e = sym (c .before .enum-told .given .1) ∙ c .before .before .before .decoded .ensures in (
+    let e = sym (c .before .before .next .given .1) ∙ c .before .before .before .before .decoded .ensures in (
       ap (λ (r : ItemRead). numberIn (itemSays r)) e,
-      ap (λ (r : ItemRead). leftBy foundList (now (c .before .before .before .before .before .args .item)) (itemSays r)) e,
+      ap (λ (r : ItemRead). leftBy foundList (now (c .before .before .before .before .before .before .args .item)) (itemSays r)) e,
     )
 
 returns-3 : tie.Need-returns-3

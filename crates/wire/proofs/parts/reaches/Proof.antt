@@ -16,5 +16,9 @@ returns-3 : tie.Need-returns-3
 unfolding reachOf
 returns-3 c = search picks
 
+returns-4 : tie.Need-returns-4
+unfolding reachOf
+returns-4 c = search picks
+
 pub reaches-spec : {M : Type 1} → statement M
-reaches-spec = tie.close (tie.spec returns returns-2 returns-3)
+reaches-spec = tie.close (tie.spec returns returns-2 returns-3 returns-4)
