@@ -21,7 +21,7 @@ use types.Kit.{Given, ‵, raw, some, later, given, _⊛_, _$_, _∵_, !, qed, b
 use types.Run.{look, init, forget, stop, from, load, lit, and-then, no-more, land, of-opd, addr, assigns, returns, enter, alloc1, alloc0, params1, pass1, pass0, free1, free0}
 use types.Part.{agg}
 use types.Tokens.{lft-new, lft-end}
-use types.SemTy.{cells, Arr}
+use types.SemTy.{Arr}
 use sound.WpLaws.{FmC, fmOf, WpFn-mono}
 use borrow.Rule.Slice.Shared.{parts-cells}
 use denote.RattleType.{owns}
@@ -30,7 +30,7 @@ use denote.Memory.{mem, pointee}
 use denote.Builtin.{u8}
 use denote.Ref.{RefT}
 use denote.Slice.{sliceTy, sliceVal, slice-vals, shr-slice-tells, shr-slice-copy, ShrSlice, MutSlice, Room}
-use denote.Array.{Array, array-vals, array-lawful, array-makes}
+use denote.Array.{array-vals, array-lawful, array-makes}
 use denote.Lend.{Held, lends-slice, slice-back}
 use denote.Signature.{plain}
 use denote.Steps.{owned, facts, nothing, heard, only}
