@@ -10,12 +10,12 @@ use lib.Dec.{ltb, eqb, lit<}
 use lib.IntN.{ℤ, pos, negsuc}
 use lib.ListN.{length, getD, take, drop, length-drop, List·getD-append}
 use lib.Seq.{ext-getD, take-add, take-all, length-take-le, getD-take, getD-drop, getD-append-add, getD-at}
-use borrow.Author.Tests.{le-ltb, ltb-true, ltb-false, eq-eqb, ne-eqb, eqb-true}
+use borrow.Author.Tests.{lt-ltb, le-ltb, ltb-true, ltb-false, eq-eqb, ne-eqb, eqb-true}
 use Rattle.base.proofs.Bytes.{append-lt}
 use Rattle.base.specs.Pick.{pick}
-use Rattle.base.specs.Numbers.{itemLong, pathMost}
+use Rattle.base.specs.Numbers.{itemLong, heartbeatLength, outputShort, outside, itemMost, pathMost}
 use Rattle.base.specs.Lists.{Bytes, imap, orElse, firstOf, joined}
-use Rattle.base.specs.Answers.{bytes, refused, bytesOr}
+use Rattle.base.specs.Answers.{Answer, value, number, bytes, refused, bytesOr}
 use Rattle.base.proofs.Lists.{_◂_, imap-length, imap-at, or-zero, listed}
 use Rattle.wire.specs.Number.{beBytes}
 use Rattle.fields.specs.Signal.{rssiByte, snrByte}
@@ -26,10 +26,12 @@ use Rattle.fields.specs.declared.signal.SignalByte.the-variants.{Byte, Refused 
 use Rattle.fields.specs.declared.path.RelayPath.{RelayPath}
 use Rattle.fields.proofs.Laws.Bytes.{none, _▸_, small}
 use Rattle.fields.proofs.Laws.Path.{path-back, path-again, six-length, joined-length}
-use Rattle.heartbeats.specs.Heartbeat.{sixAt, entryAt, entries, pathsOf, beatRefusal, beatOf, beatWire, noPath, FourByteIds}
+use Rattle.heartbeats.specs.Heartbeat.{sixAt, entryAt, entries, pathsOf, beatRefusal, entryRefusal, beatOf, entryRead, beatWire, noPath, FourByteIds, beatSays, pathSays}
 use Rattle.fields.specs.Path.{badEntry, sixOf}
 use Rattle.base.specs.Answers.{frameNumber}
-use Rattle.heartbeats.specs.declared.heartbeat.HeartbeatRead.the-variants.{Heartbeat}
+use Rattle.heartbeats.specs.declared.heartbeat.HeartbeatPayload.{HeartbeatPayload}
+use Rattle.heartbeats.specs.declared.heartbeat.HeartbeatRead.the-variants.{Heartbeat, Refused as NoBeat}
+use Rattle.heartbeats.specs.declared.heartbeat.PathRead.the-variants.{Entry, Refused as NoEntry}
 use Rattle.heartbeats.proofs.Steps.{entries-length, first-snoc, joined-snoc}
 
 -- ---- the entries by their index
@@ -56,6 +58,48 @@ entries-at v (suc n) i h = by (ltb i n) refl (entries-at v n i)
 pub paths-at : (v : List ℕ) (i : ℕ) → i < length v / 6 → getD (pathsOf v) i noPath ≡ entryAt v i
 unfolding pathsOf
 paths-at v i h = entries-at v (length v / 6) i h
+
+-- ---- one entry
+
+module _ (v : List ℕ) (places i : ℕ) where
+  abbrev says : Bool → Bool → Bool → Answer HeartbeatPayload
+  says s t u =
+      let n = orElse (pick s itemLong (pick t heartbeatLength 0)) (pick u outputShort 0) in
+      beatSays (pick (eqb n 0) (Heartbeat (record { entries = length v / 6 })) (NoBeat n))
+
+  abbrev reads : Bool → Bool → Bool → Answer RelayPath
+  reads s t u =
+      let n = orElse (pick s itemLong (pick t heartbeatLength 0)) (pick u 0 outside) in
+      pathSays (pick (eqb n 0) (Entry (entryAt v i)) (NoEntry n))
+
+  -- a value that the reader refuses, but for its list's places, has no entries: each is refused with the same number
+  pub refused-entries : (n : ℕ) → (n ≡ outputShort → ⊥) → beatSays (beatOf v places) ≡ number n → pathSays (entryRead v i) ≡ number n
+  unfolding beatOf beatRefusal entryRead entryRefusal
+  refused-entries n h = by (ltb itemMost (length v)) (ltb 0 (length v % 6)) (ltb places (length v / 6))
+    where
+      by : (s t u : Bool) → says s t u ≡ number n → reads s t (ltb i (length v / 6)) ≡ number n
+      by true t u e = let q : itemLong ≡ n = cc in ap number q
+      by false true u e = let q : heartbeatLength ≡ n = cc in ap number q
+      by false false true e = let q : n ≡ outputShort = cc in absurd (h q)
+      by false false false e = let z : _≡_ {A = ℕ} 0 1 = cc in absurd (omega arith)
+
+  -- of one that it takes, those below its count are there
+  pub taken-entries : (h : HeartbeatPayload) → beatSays (beatOf v places) ≡ value h
+      → (i < h .entries → pathSays (entryRead v i) ≡ value (getD (pathsOf v) i noPath)) × (h .entries ≤ i → pathSays (entryRead v i) ≡ number outside)
+  unfolding beatOf beatRefusal entryRead entryRefusal
+  taken-entries h = by (ltb itemMost (length v)) (ltb 0 (length v % 6)) (ltb places (length v / 6))
+    where
+      by : (s t u : Bool) → says s t u ≡ value h
+          → (i < h .entries → reads s t (ltb i (length v / 6)) ≡ value (getD (pathsOf v) i noPath)) × (h .entries ≤ i → reads s t (ltb i (length v / 6)) ≡ number outside)
+      by true t u e = let z : _≡_ {A = ℕ} 0 1 = cc in absurd (omega arith)
+      by false true u e = let z : _≡_ {A = ℕ} 0 1 = cc in absurd (omega arith)
+      by false false true e = let z : _≡_ {A = ℕ} 0 1 = cc in absurd (omega arith)
+      by false false false e =
+          let g : record { entries = length v / 6 } ≡ h = cc in
+          let q : length v / 6 ≡ h .entries = ap (λ (x : HeartbeatPayload). x .entries) g in (
+            λ l. let k : i < length v / 6 = omega arith in rw (lt-ltb i (length v / 6) k) (ap value (sym (paths-at v i k))),
+            λ l. let k : length v / 6 ≤ i = omega arith in rw (le-ltb i (length v / 6) k) refl,
+          )
 
 -- ---- what is written
 

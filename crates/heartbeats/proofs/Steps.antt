@@ -8,7 +8,7 @@ use mathlib.Core.List.{List, [], _∷_, _++_, append-assoc, append-nil}
 use lib.Dec.{ltb, eqb}
 use lib.ListN.{length, getD, take, drop, set, length-append, length-drop}
 use lib.Seq.{take-suc, take-all, drop-cons, set-at, sets, sets-eq, length-take-le}
-use borrow.Author.Tests.{le-leb, lt-leb, ltb-false}
+use borrow.Author.Tests.{lt-ltb, le-ltb, ne-eqb, ltb-false}
 use Rattle.base.specs.Pick.{pick}
 use Rattle.base.specs.Numbers.{itemLong, outputShort, outside, pathMost}
 use Rattle.base.specs.Lists.{orElse, firstOf, joined}
@@ -19,7 +19,7 @@ use Rattle.base.proofs.Lists.{listed}
 use Rattle.wire.specs.Lay.{put}
 use Rattle.wire.proofs.Laws.Lay.{put-fits, put-front, two-puts}
 use Rattle.fields.specs.declared.path.RelayPath.{RelayPath}
-use Rattle.heartbeats.specs.Heartbeat.{entryAt, entries, pathsOf, beatRefusal, beatOf, pathAfter, entryRead, beatWire, noPath}
+use Rattle.heartbeats.specs.Heartbeat.{entryAt, entries, pathsOf, lengthRefusal, beatRefusal, entryRefusal, beatOf, pathAfter, entryRead, beatWire, noPath}
 use Rattle.fields.specs.Path.{badEntry, sixOf}
 use Rattle.heartbeats.specs.Steps.{countOf, beatVerdict, placesOf}
 use Rattle.heartbeats.specs.declared.heartbeat.HeartbeatRead.the-variants.{Heartbeat, Refused as NoBeat}
@@ -28,13 +28,35 @@ use Rattle.fields.proofs.Laws.Path.{six-length, joined-length}
 
 -- ---- reading
 
-pub read-inside : (v : List ℕ) (i : ℕ) → i < length v / 6 → entryRead v i ≡ Entry (entryAt v i)
-unfolding entryRead
-read-inside v i h = let l : i * 6 + 6 ≤ length v = omega arith in simp (le-leb (i * 6 + 6) (length v) l)
+-- 19 and 20 are asked before 21 and 45
+pub or-first : (b n : ℕ) → (b ≡ 0 → ⊥) → orElse b n ≡ b
+or-first zero n h = absurd (h refl)
+or-first (suc b) n h = refl
 
-pub read-outside : (v : List ℕ) (i : ℕ) → length v / 6 ≤ i → entryRead v i ≡ NoEntry outside
-unfolding entryRead
-read-outside v i h = let l : length v < i * 6 + 6 = omega arith in simp (lt-leb (i * 6 + 6) (length v) l)
+module _ (v : List ℕ) (bad : ℕ) (e : bad ≡ lengthRefusal (length v)) where
+  pub check-long : (places : ℕ) → (bad ≡ 0 → ⊥) → NoBeat bad ≡ beatOf v places
+  unfolding beatOf beatRefusal
+  check-long places h = rw (← e, or-first bad (pick (ltb places (length v / 6)) outputShort 0) h, ne-eqb bad 0 h)
+
+  pub check-short : (places : ℕ) → bad ≡ 0 → places < length v / 6 → NoBeat outputShort ≡ beatOf v places
+  unfolding beatOf beatRefusal
+  check-short places z l = rw (← e, z, lt-ltb places (length v / 6) l)
+
+  pub check-takes : (places : ℕ) → bad ≡ 0 → length v / 6 ≤ places → Heartbeat (record { entries = length v / 6 }) ≡ beatOf v places
+  unfolding beatOf beatRefusal
+  check-takes places z l = rw (← e, z, le-ltb places (length v / 6) l)
+
+  pub entry-long : (i : ℕ) → (bad ≡ 0 → ⊥) → NoEntry bad ≡ entryRead v i
+  unfolding entryRead entryRefusal
+  entry-long i h = rw (← e, or-first bad (pick (ltb i (length v / 6)) 0 outside) h, ne-eqb bad 0 h)
+
+  pub entry-outside : (i : ℕ) → bad ≡ 0 → length v / 6 ≤ i → NoEntry outside ≡ entryRead v i
+  unfolding entryRead entryRefusal
+  entry-outside i z l = rw (← e, z, le-ltb i (length v / 6) l)
+
+  pub entry-there : (i : ℕ) → bad ≡ 0 → i < length v / 6 → Entry (entryAt v i) ≡ entryRead v i
+  unfolding entryRead entryRefusal
+  entry-there i z l = rw (← e, z, lt-ltb i (length v / 6) l)
 
 pub entries-length : (v : List ℕ) (n : ℕ) → length (entries v n) ≡ n
 unfolding entries
@@ -65,8 +87,11 @@ pub record Fits (len most n : ℕ) : Type 0 where
   pub room : n ≤ most
 
 module _ (v : List ℕ) (ys : List RelayPath) where
+  abbrev told : Bool → Bool → Bool → ℕ
+  told s t u = orElse (pick s 19 (pick t 20 0)) (pick u 21 0)
+
   abbrev turns : Bool → Bool → Bool → ℕ
-  turns s t u = countOf (pick (eqb (pick s 19 (pick t 20 (pick u 21 0))) 0) (Heartbeat (record { entries = length v / 6 })) (NoBeat (pick s 19 (pick t 20 (pick u 21 0)))))
+  turns s t u = countOf (pick (eqb (told s t u) 0) (Heartbeat (record { entries = length v / 6 })) (NoBeat (told s t u)))
 
   pub count-fits : Fits (length v) (length ys) (countOf (beatOf v (length ys)))
   unfolding beatOf beatRefusal
@@ -82,17 +107,13 @@ module _ (v : List ℕ) (ys : List RelayPath) where
   unfolding beatOf beatRefusal pathAfter pathsOf entries
   filled-all = by (ltb 255 (length v)) (ltb 0 (length v % 6)) (ltb (length ys) (length v / 6))
     where
-      by : (s t u : Bool) → filled v ys (turns s t u) ≡ pick (eqb (pick s 19 (pick t 20 (pick u 21 0))) 0) (entries v (length v / 6) ++ drop (length v / 6) ys) ys
+      by : (s t u : Bool) → filled v ys (turns s t u) ≡ pick (eqb (told s t u) 0) (entries v (length v / 6) ++ drop (length v / 6) ys) ys
       by true t u = refl
       by false true u = refl
       by false false true = refl
       by false false false = refl
 
 -- ---- writing
-
-pub or-first : (b n : ℕ) → (b ≡ 0 → ⊥) → orElse b n ≡ b
-or-first zero n h = absurd (h refl)
-or-first (suc b) n h = refl
 
 -- the first refusal of one element more
 or-assoc : (a b c : ℕ) → orElse a (orElse b c) ≡ orElse (orElse a b) c

@@ -1,12 +1,12 @@
 -- A heartbeat's value: a path of entries, six bytes each. Assumes nothing.
 use Prim.Native.Nat.{ℕ, zero, suc, _+_, _*_, _/_, _%_, _<_}
 use mathlib.Core.List.{List, [], _∷_, _++_}
-use lib.Dec.{ltb, leb, eqb}
+use lib.Dec.{ltb, eqb}
 use lib.IntN.{pos}
 use lib.ListN.{length, getD, drop}
 use Rattle.base.specs.Pick.{pick}
 use Rattle.base.specs.Numbers.{itemLong, heartbeatLength, outputShort, outside, itemMost, pathMost}
-use Rattle.base.specs.Lists.{firstOf, joined}
+use Rattle.base.specs.Lists.{orElse, firstOf, joined}
 use Rattle.base.specs.Answers.{Answer, value, number, Frame, bytes, refused, unlessRefused}
 use Rattle.fields.specs.Path.{pathOf, badEntry, sixOf}
 use Rattle.fields.specs.declared.path.RelayPath.{RelayPath}
@@ -33,12 +33,17 @@ entries v (suc n) = entries v n ++ (entryAt v n ∷ [])
 unfoldable pub pathsOf : List ℕ → List RelayPath
 pathsOf v = entries v (length v / 6)
 
--- 19, 20, 21: too long, no whole number of entries, more of them than the list has places; 0 for none
+-- 19, 20: a value of this length is too long, or no whole number of entries; 0 for none. A value so refused has no entries.
+abbrev pub lengthRefusal : ℕ → ℕ
+lengthRefusal len = pick (ltb itemMost len) itemLong (pick (ltb 0 (len % 6)) heartbeatLength 0)
+
+-- then 21: more entries than the list has places
 unfoldable pub beatRefusal : ℕ → ℕ → ℕ
-beatRefusal len places =
-    pick (ltb itemMost len) itemLong
-    (pick (ltb 0 (len % 6)) heartbeatLength
-    (pick (ltb places (len / 6)) outputShort 0))
+beatRefusal len places = orElse (lengthRefusal len) (pick (ltb places (len / 6)) outputShort 0)
+
+-- or 45: entry i is not there
+unfoldable pub entryRefusal : ℕ → ℕ → ℕ
+entryRefusal len i = orElse (lengthRefusal len) (pick (ltb i (len / 6)) 0 outside)
 
 -- what is answered, and what the list holds after it
 unfoldable pub beatOf : List ℕ → ℕ → HeartbeatRead
@@ -50,9 +55,12 @@ beatOf v places =
 unfoldable pub pathAfter : List ℕ → List RelayPath → List RelayPath
 pathAfter v ys = pick (eqb (beatRefusal (length v) (length ys)) 0) (pathsOf v ++ drop (length v / 6) ys) ys
 
--- entry i alone; 45 where its six bytes do not lie in v
+-- entry i alone
 unfoldable pub entryRead : List ℕ → ℕ → PathRead
-entryRead v i = pick (leb (i * 6 + 6) (length v)) (Entry (entryAt v i)) (NoEntry outside)
+entryRead v i =
+    pick (eqb (entryRefusal (length v) i) 0)
+    (Entry (entryAt v i))
+    (NoEntry (entryRefusal (length v) i))
 
 -- ---- writing
 

@@ -6,7 +6,7 @@ ghost use lib.ListN.{length};
 ghost use Rattle.base.specs.Lists.{orElse, firstOf};
 ghost use Rattle.base.specs.Answers.{answerOf, outOf};
 ghost use Rattle.wire.specs.Lay.{put};
-ghost use Rattle.heartbeats.specs.Heartbeat.{entryAt, beatOf, pathAfter, entryRead, beatWire};
+ghost use Rattle.heartbeats.specs.Heartbeat.{entryAt, lengthRefusal, beatOf, pathAfter, entryRead, beatWire};
 ghost use Rattle.fields.specs.Path.{badEntry, sixOf};
 ghost use Rattle.heartbeats.specs.Steps.{countOf, beatVerdict, placesOf};
 use base::Checked;
@@ -28,6 +28,19 @@ pub enum HeartbeatRead {
 pub enum PathRead {
     Entry(RelayPath),
     Refused(u8),
+}
+
+// The number for which a value of this length has no entries, or 0.
+fn bad_length(n: usize) -> u8
+    ensures { λ r. ⌜ r ≡ lengthRefusal n ⌝ }
+{
+    if Limit::ITEM < n {
+        return Refusal::ITEM_LONG;
+    }
+    if 0 < n % 6 {
+        return Refusal::HEARTBEAT_LENGTH;
+    }
+    0
 }
 
 // Entry i, which lies in the value.
@@ -129,11 +142,9 @@ impl HeartbeatPayload {
         ensures { λ r. ⌜ r ≡ beatOf (now (b .entry)) places ⌝ }
     {
         let n = b.len();
-        if Limit::ITEM < n {
-            return HeartbeatRead::Refused(Refusal::ITEM_LONG);
-        }
-        if 0 < n % 6 {
-            return HeartbeatRead::Refused(Refusal::HEARTBEAT_LENGTH);
+        let refusal = bad_length(n);
+        if refusal != 0 {
+            return HeartbeatRead::Refused(refusal);
         }
         if places < n / 6 {
             return HeartbeatRead::Refused(Refusal::OUTPUT_SHORT);
@@ -141,15 +152,18 @@ impl HeartbeatPayload {
         HeartbeatRead::Heartbeat(HeartbeatPayload { entries: n / 6 })
     }
 
-    // Entry i of a value, without a list.
+    // Entry i of a value, without a list. A value that `check` refuses for its length has none.
     pub fn entry(b: &[u8], i: usize) -> PathRead
         ensures { λ r. ⌜ r ≡ entryRead (now (b .entry)) i ⌝ }
     {
-        if i < b.len() / 6 {
-            PathRead::Entry(entry_at(b, i))
-        } else {
-            PathRead::Refused(Refusal::OUTSIDE)
+        let none = bad_length(b.len());
+        if none != 0 {
+            return PathRead::Refused(none);
         }
+        if b.len() / 6 <= i {
+            return PathRead::Refused(Refusal::OUTSIDE);
+        }
+        PathRead::Entry(entry_at(b, i))
     }
 
     // All entries of a value, into the front of the list.

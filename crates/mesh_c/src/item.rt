@@ -172,7 +172,7 @@ pub extern "C" fn mesh_heartbeat(value: &[u8], places: u64, entries: &mut u64) -
     }
 }
 
-// One of them: 0, or 45.
+// One of them: 0, or 19, 20, 45.
 #[no_mangle]
 pub extern "C" fn mesh_heartbeat_entry(
     value: &[u8],

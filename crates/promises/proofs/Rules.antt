@@ -10,7 +10,7 @@ use lib.ListN.{length, getD, replicate}
 use borrow.Author.Tests.{lt-ltb, le-ltb, eq-eqb, ne-eqb}
 use Rattle.base.specs.Lists.{Bytes}
 use Rattle.base.specs.Blocks.{Block}
-use Rattle.base.specs.Numbers.{hopsNone, hopsMany, notMesh, typeLarge, keyLength, keyDigit, frequencyLarge, frequencyStep, frequencyLength, bodyShort, cacheSize, itemLong, heartbeatLength, outputShort}
+use Rattle.base.specs.Numbers.{hopsNone, hopsMany, notMesh, typeLarge, keyLength, keyDigit, frequencyLarge, frequencyStep, frequencyLength, bodyShort, cacheSize, itemLong, heartbeatLength, outputShort, outside}
 use Rattle.base.specs.Answers.{value, number, bytes, checkedSays, numberIn}
 use Rattle.wire.specs.Hex.{allHex, unhex, hexText}
 use Rattle.fips197.specs.Aes.{aes}
@@ -33,8 +33,9 @@ use Rattle.fields.proofs.Laws.Path.{path-back, path-again}
 use Rattle.fields.specs.declared.header.HeaderByte.the-variants.{Byte}
 use Rattle.fields.specs.declared.header.HeaderRead.the-variants.{Header}
 use Rattle.fields.specs.declared.signal.SignalByte.the-variants as signal
-use Rattle.heartbeats.specs.Heartbeat.{pathsOf, beatRefusal, beatOf, beatWire, beatSays, FourByteIds}
-use Rattle.heartbeats.proofs.Laws.{beat-back}
+use Rattle.heartbeats.specs.Heartbeat.{pathsOf, beatRefusal, beatOf, entryRead, beatWire, beatSays, pathSays, noPath, FourByteIds}
+use Rattle.heartbeats.specs.declared.heartbeat.HeartbeatPayload.{HeartbeatPayload}
+use Rattle.heartbeats.proofs.Laws.{refused-entries, taken-entries, beat-back}
 use Rattle.items.specs.Items.{badBeat, itemAt, Turn}
 use Rattle.items.proofs.Laws.{turn}
 use Rattle.packets.specs.Read.{meshOf, meshSays}
@@ -200,6 +201,15 @@ unfolding beatOf beatRefusal
 heartbeat-without-places v places h e l =
     let z : length v % 6 ≤ 0 = omega arith in
     simp (le-ltb 255 (length v) h, le-ltb 0 (length v % 6) z, lt-ltb places (length v / 6) l)
+
+-- a value refused with 19 or 20 has no entries: each is refused with that number. Of one that is read into a list of any length, those
+-- below its count are there, and every other is 45
+pub heartbeat-refused-has-no-entries : (v : List ℕ) (places i n : ℕ) → (n ≡ outputShort → ⊥) → beatSays (beatOf v places) ≡ number n → pathSays (entryRead v i) ≡ number n
+heartbeat-refused-has-no-entries v places i n = refused-entries v places i n
+
+pub heartbeat-entry : (v : List ℕ) (places i : ℕ) (h : HeartbeatPayload) → beatSays (beatOf v places) ≡ value h
+    → (i < h .entries → pathSays (entryRead v i) ≡ value (getD (pathsOf v) i noPath)) × (h .entries ≤ i → pathSays (entryRead v i) ≡ number outside)
+heartbeat-entry v places i h = taken-entries v places i h
 
 -- an item of tag 0 in an event is skipped exactly where its value is refused for its length
 uneven : (n : ℕ) → badBeat true 0 n ≡ ltb 0 (n % 6)

@@ -1,0 +1,241 @@
+// Calls the forms that document 01 names and that no other program reaches: the cache's `add` in place, a heartbeat's path into and from a
+// lent list of records, and an item's value as a part of what holds it. It prints a line for each; the gate compares with the file stdout.
+mod lent;
+
+use base::Checked;
+use base::Written;
+use bodies::Body;
+use bodies::Held;
+use cache::Cache;
+use cache::CacheAnswer;
+use cache::PayloadCache;
+use fields::PayloadType;
+use fields::RelayPath;
+use heartbeats::HeartbeatPayload;
+use heartbeats::HeartbeatRead;
+use heartbeats::PathRead;
+use items::Event;
+use items::Item;
+use items::ItemKind;
+use items::ItemRead;
+use libc::STDOUT_FILENO;
+use wire::Run;
+use wire::part;
+use wire::write_hex;
+
+fn say(text: &[u8]) {
+    io::write_all(STDOUT_FILENO, text);
+}
+
+fn plain(label: &[u8], x: u64) {
+    say(label);
+    io::print_decimal(STDOUT_FILENO, x);
+}
+
+// Bytes in hex, 32 of them at most.
+fn hex(label: &[u8], bytes: &[u8]) {
+    say(label);
+    let mut text = [0u8; 64];
+    write_hex(bytes, &mut text, 0);
+    say(part(&text, 0, 2 * bytes.len()));
+}
+
+// ---- the cache, in place: P12's records, and a cache whose size was refused
+fn record(id: u16) -> PayloadCache {
+    PayloadCache {
+        p_type: PayloadType::Uplink,
+        uplink_id: id,
+        timestamp: 0,
+        relay_id: 0x0a0b0c0d,
+    }
+}
+
+fn answer(a: CacheAnswer) {
+    match a {
+        CacheAnswer::New => say(b" yes"),
+        CacheAnswer::Seen => say(b" no"),
+        CacheAnswer::Refused(n) => plain(b" refused ", n as u64),
+    }
+}
+
+fn add(c: Cache, id: u16) -> Cache {
+    let told = lent::add_once(c, record(id));
+    let a = told.answer;
+    answer(a);
+    told.cache
+}
+
+// Which of the three records a cache would not take for new, asked of a copy.
+fn holds(label: &[u8], c: Cache) {
+    say(label);
+    let a = c.added(record(1)).answer;
+    answer(a);
+    let b = c.added(record(2)).answer;
+    answer(b);
+    let d = c.added(record(3)).answer;
+    answer(d);
+    say(b"\n");
+}
+
+fn p12() {
+    say(b"P12 in place            ");
+    let c0 = Cache::new(2).cache;
+    let c1 = add(c0, 1);
+    let c2 = add(c1, 2);
+    let c3 = add(c2, 1);
+    let c4 = add(c3, 3);
+    let c5 = add(c4, 1);
+    let c6 = add(c5, 2);
+    say(b"\n");
+    holds(b"new after A B           ", c2);
+    holds(b"new after A B A         ", c3);
+    holds(b"new after A B A C       ", c4);
+    holds(b"new after A B A C A B   ", c6);
+}
+
+fn refused_size(label: &[u8], size: usize) {
+    say(label);
+    let made = Cache::new(size);
+    let told = made.answer;
+    match told {
+        Checked::Accepted => say(b" accepted"),
+        Checked::Refused(n) => plain(b" refused ", n as u64),
+    }
+    let c = add(made.cache, 1);
+    holds(b"", c);
+}
+
+// ---- a heartbeat's path, in a list of records; each record is printed as its six bytes
+fn entry(p: RelayPath) {
+    hex(b" ", &p.to_bytes().bytes);
+}
+
+fn unused() -> RelayPath {
+    RelayPath {
+        relay_id: 0xffffffff,
+        rssi: -1,
+        snr: -1,
+    }
+}
+
+fn reads(label: &[u8], b: &[u8]) -> [RelayPath; 3] {
+    say(label);
+    let none = unused();
+    let read = lent::read_three(b, [none; 3]);
+    let answer = read.answer;
+    match answer {
+        HeartbeatRead::Heartbeat(h) => plain(b"entries ", h.entries as u64),
+        HeartbeatRead::Refused(n) => plain(b"refused ", n as u64),
+    }
+    let list = read.list;
+    entry(list[0]);
+    entry(list[1]);
+    entry(list[2]);
+    say(b"\n");
+    list
+}
+
+// One entry of a value, without a list.
+fn one(label: &[u8], b: &[u8], i: usize) {
+    say(label);
+    match HeartbeatPayload::entry(b, i) {
+        PathRead::Entry(p) => entry(p),
+        PathRead::Refused(n) => plain(b" refused ", n as u64),
+    }
+    say(b"\n");
+}
+
+fn entries() {
+    let two = b"\x0a\x0b\x0c\x0d\x50\xc7\x01\x02\x03\x04\xff\x20";
+    one(b"entry 1 of 12 bytes     ", two, 1);
+    one(b"entry 2 of 12 bytes     ", two, 2);
+    one(b"entry 0 of 5 bytes      ", &[1u8; 5], 0);
+    one(b"entry 0 of 7 bytes      ", &[1u8; 7], 0);
+    one(b"entry 1 of 7 bytes      ", &[1u8; 7], 1);
+    one(b"entry 49 of 300 bytes   ", &[1u8; 300], 49);
+}
+
+fn writes(label: &[u8], list: [RelayPath; 2], out: &mut [u8]) {
+    say(label);
+    match lent::write_two(list, out) {
+        Written::Bytes(n) => plain(b"bytes ", n as u64),
+        Written::Refused(n) => plain(b"refused ", n as u64),
+    }
+    hex(b" ", out);
+    say(b"\n");
+}
+
+fn paths() {
+    let two = reads(
+        b"path of 12 bytes         ",
+        b"\x0a\x0b\x0c\x0d\x50\xc7\x01\x02\x03\x04\xff\x20",
+    );
+    reads(b"path of 0 bytes          ", b"");
+    reads(b"path of 7 bytes          ", &[1u8; 7]);
+    reads(b"path of 24 bytes         ", &[1u8; 24]);
+    reads(b"path of 256 bytes        ", &[1u8; 256]);
+    reads(b"path of 258 bytes        ", &[1u8; 258]);
+    let list = [two[0], two[1]];
+    writes(b"written into 14 bytes    ", list, &mut [0xeeu8; 14]);
+    writes(b"written into 12 bytes    ", list, &mut [0xeeu8; 12]);
+    writes(b"written into 11 bytes    ", list, &mut [0xeeu8; 11]);
+    let loud = RelayPath {
+        relay_id: 1,
+        rssi: 1,
+        snr: 0,
+    };
+    writes(
+        b"with an rssi of 1        ",
+        [two[0], loud],
+        &mut [0xeeu8; 12],
+    );
+}
+
+// ---- an item's value
+fn value<'a>(label: &[u8], body: Body, item: Item, frame: &'a [u8], work: &'a [u8]) {
+    let mut refused = 0u8;
+    hex(label, body.value(item, frame, work, &mut refused));
+    if refused != 0 {
+        plain(b"refused ", refused as u64);
+    }
+    say(b"\n");
+}
+
+// The first item of a body's payload.
+fn first<'a>(label: &[u8], body: Body, frame: &'a [u8], work: &'a [u8]) {
+    match Event::decode(body.payload(frame, work), 0) {
+        ItemRead::Kept { item, next: _ } => value(label, body, item, frame, work),
+        _ => say(b"no item\n"),
+    }
+}
+
+fn values() {
+    let frame = b"\xee\x01\x02\xaa\xbb\xee";
+    let work = b"\x05\x03\x01\x02\x03";
+    let in_frame = Body::Open {
+        held: Held::Frame,
+        run: Run { start: 1, len: 4 },
+    };
+    let in_work = Body::Open {
+        held: Held::Work,
+        run: Run { start: 0, len: 5 },
+    };
+    first(b"value in the frame       ", in_frame, frame, work);
+    first(b"value in the work buffer ", in_work, frame, work);
+    let longer = Item {
+        kind: ItemKind::Proprietary,
+        tag: 1,
+        value: Run { start: 2, len: 3 },
+    };
+    value(b"value past the payload   ", in_frame, longer, frame, work);
+    value(b"value of another payload ", in_work, longer, frame, work);
+}
+
+fn main() {
+    p12();
+    refused_size(b"cache of 0              ", 0);
+    refused_size(b"cache of 65             ", 65);
+    paths();
+    entries();
+    values();
+}
