@@ -137,6 +137,32 @@ def skip(text, at, pair='{}'):
         if not deep: break
     return at
 
+@functools.cache
+def source_types(crate):
+    """The structs and enums that a crate's sources declare: the file, the text, and by the file's `use` lines the crates that names come from."""
+    found = {}
+    for path in sorted((ROOT / 'crates' / crate / 'src').glob('**/*.rt')):
+        text = code(path.read_text())
+        for m in re.finditer(r'^(?:pub )?(?:struct|enum) (\w+)[^;{(]*([;{(])', text, re.M):
+            end = m.end() if m[2] == ';' else skip(text, m.end() - 1, '{}' if m[2] == '{' else '()')
+            found[m[1]] = path, text[m.start():end], used_crates(text)
+    return found
+
+def used_crates(text): return {path.split('::')[-1]: path.split('::')[0] for path in re.findall(r'^\s*(?:pub )?use ([\w:]+);', text, re.M)}
+
+def types_under(module):
+    """The source's type that a module of `declared` is made of, and those that its parts are of: the file, the name and the text."""
+    m = re.fullmatch(r'(?:package\.)?Rattle·(\w+)(?:·specs)?\.specs\.declared\.(\S+?)(?:\.the-variants)?', module)
+    ahead, seen = [(m[1], m[2].split('.')[-1])] if m else [], {}
+    while ahead:
+        crate, name = ahead.pop()
+        path, text, uses = source_types(crate).get(name, (None, '', {}))
+        if not path or (path, name) in seen: continue
+        seen[path, name] = plain(text)
+        ahead += [(uses.get(part, crate), part) for part in re.findall(r'\b[A-Z]\w*', text)]
+        ahead += [(crate, part) for part in re.findall(r'\b[A-Z]\w*', text)]
+    return seen
+
 def pieces(text):
     """A list's parts, at the commas outside brackets."""
     out, deep = [''], 0
@@ -167,7 +193,7 @@ class Sources:
         self.functions, self.fields, self.uses = [], {}, {}
         for path in sorted(folder.glob('*/src/**/*.rt')):
             crate, module, text = path.relative_to(folder).parts[0], path.stem, code(path.read_text())
-            self.uses[crate, module] = {path.split('::')[-1]: path.split('::')[0] for path in re.findall(r'^\s*(?:pub )?use ([\w:]+);', text, re.M)}
+            self.uses[crate, module] = used_crates(text)
             for kind, name, at in ((m[1], m[2], m.end() - 1) for m in re.finditer(r'^\s*(?:pub )?(struct|enum) (\w+)(?:<[^>]*>)?\s*[{(]', text, re.M)):
                 body = text[at + 1:skip(text, at, '{}' if text[at] == '{' else '()') - 1]
                 for n, part in enumerate(pieces(body)):
