@@ -36,7 +36,7 @@ def plain(text): return ' '.join(text.split())
 def brought(text):
     """What the `use` lines of an antt file bring: of an item the module that has it and its name there, of a module its path and ''."""
     items = {}
-    for path, group, alias in re.findall(r'^(?:unfoldable |pub )*use\s+([^\s{]+?)(?:\.\{([^}]*)\})?(?:\s+as\s+(\S+))?$', bare(text), re.M):
+    for path, group, alias in re.findall(r'^(?:unfoldable |pub )*use\s+([^\s{]+?)(?:\.\{([^}]*)\})?(?:[ \t]+as[ \t]+(\S+))?[ \t]*$', bare(text), re.M):
         if not group: items[alias or path.split('.')[-1]] = (path, '')
         for one in filter(None, map(plain, group.split(','))):
             name, _, alias = one.partition(' as ')
