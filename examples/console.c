@@ -1,5 +1,5 @@
-/* What a console does with each frame that it receives: it reads the frame, validates it, looks it up, opens it, and finds the relay. The
- * frames are built in; bindings/rust/examples/console.rs has the same and prints the same. docs/LINKING.md says how to build it. */
+/* What a console does with each frame that it receives: it reads the frame, validates it, looks it up, opens it, finds the relay, and passes on
+ * what is valid and new with one hop more. The frames are built in; bindings/rust/examples/console.rs has the same and prints the same. docs/LINKING.md says how to build it. */
 #include <inttypes.h>
 #include <stdio.h>
 #include <string.h>
@@ -68,39 +68,32 @@ static void print_hex(const uint8_t *b, uint64_t n) {
 }
 
 static void print_heartbeat(const uint8_t *value, size_t n) {
+    mesh_path_entry path[MESH_PATH_MOST];
     uint64_t entries;
     printf("  heartbeat\n");
-    if (mesh_heartbeat(value, n, MESH_PATH_MOST, &entries)) return;
+    if (mesh_path_entries_read(value, n, path, MESH_PATH_MOST, &entries)) return;
     for (uint64_t i = 0; i < entries; i++) {
-        uint32_t id;
-        int16_t rssi;
-        int8_t snr;
-        if (mesh_heartbeat_entry(value, n, i, &id, &rssi, &snr)) return;
         printf("    ");
-        print_relay(id);
-        printf(" rssi %d snr %d\n", rssi, snr);
+        print_relay(path[i].relay_id);
+        printf(" rssi %d snr %d\n", path[i].rssi, path[i].snr);
     }
 }
 
 /* The items of a packet that was opened into work. */
 static void print_items(const mesh_packet *p, const uint8_t *work) {
-    uint64_t at = 0, item[6];
     if (p->body != MESH_OPEN_IN_WORK) return;
-    const uint8_t *payload = work + p->start;
-    while (mesh_item(p->kind == MESH_EVENT, payload, p->len, at, item) == 0 && item[0] != MESH_END) {
-        const uint8_t *value = payload + item[3];
-        if (item[0] == MESH_SKIPPED) {
-            printf("  skipped: %" PRIu64 " bytes\n", item[4]);
-        } else if (item[0] == MESH_CUT) {
-            printf("  cut: %" PRIu64 " bytes\n", item[4]);
-            return;
-        } else if (item[1] == 1) {
-            print_heartbeat(value, item[4]);
+    mesh_items it = mesh_items_begin(p->kind == MESH_EVENT, work + p->start, p->len);
+    while (mesh_items_next(&it)) {
+        if (it.found == MESH_SKIPPED) {
+            printf("  skipped: %zu bytes\n", it.len);
+        } else if (it.found == MESH_CUT) {
+            printf("  cut: %zu bytes\n", it.len);
+        } else if (it.kind == MESH_ITEM_HEARTBEAT) {
+            print_heartbeat(it.value, it.len);
         } else {
-            printf("  item %" PRIu64 ": ", item[2]);
-            print_hex(value, item[4]);
+            printf("  item %d: ", it.tag);
+            print_hex(it.value, it.len);
         }
-        at = item[5];
     }
 }
 
@@ -126,6 +119,18 @@ static void print_packet(const mesh_packet *p, const uint8_t *frame, const uint8
     }
 }
 
+/* One hop more, in the frame's own buffer. The hop edit signs whatever it is given, so only a frame that was validated comes here: a forged one
+ * would go on with a good MIC. */
+static void pass_on(uint8_t *frame, size_t n, const struct keys *keys, const mesh_packet *p) {
+    uint8_t refused = mesh_set_hop_count(keys->signing, frame, n, (uint8_t)(p->hop_count + 1));
+    if (refused) {
+        printf("  not passed on: refused %u\n", refused);
+        return;
+    }
+    printf("  passed on: ");
+    print_hex(frame, n);
+}
+
 static unsigned digit(char c) { return c <= '9' ? (unsigned)(c - '0') : (unsigned)(c - 'a' + 10); }
 
 int main(void) {
@@ -145,7 +150,10 @@ int main(void) {
         mesh_counts counts;
         uint8_t refused;
         switch (receive(frame, n, &keys, &cache, work, sizeof work, &packet, &known, &counts, &refused)) {
-        case NEW: print_packet(&packet, frame, work); break;
+        case NEW:
+            print_packet(&packet, frame, work);
+            pass_on(frame, n, &keys, &packet);
+            break;
         case DUPLICATE:
             printf("duplicate: ");
             print_relay(known.relay_id);

@@ -1,5 +1,5 @@
-/* Every exported function of mesh.h at its limits, with lengths and places that do not fit. The answers are document 01's numbers, and what a
- * refused call was lent is as it was. Each thing that is lent lies in an allocation of its own and of exactly its size, so that valgrind, or
+/* Every exported function of mesh.h at its limits, with lengths and places that do not fit, and the functions on structs with null for every
+ * slice. The answers are document 01's numbers, and what a refused call was lent is as it was. Each thing that is lent lies in an allocation of its own and of exactly its size, so that valgrind, or
  * AddressSanitizer where the library is built with it, sees a byte read or written beside it. Prints `N checks passed`, or what failed. */
 #include <inttypes.h>
 #include <stdio.h>
@@ -477,13 +477,12 @@ static uint8_t compose(uint8_t kind, const uint8_t (*kinds)[2], size_t kinds_len
         CHECK(length == 13 || do_seal(&p, &l, length - 14) == 21);
         CHECK(do_seal(&p, &l, length - 13) == 0 && do_write(true, &p, &l, length - 6) == 21);
     }
-    p.body = 255;
     CHECK(do_write(false, &p, &l, 8192) == r);
     return r;
 }
 
-static uint8_t compose_one(uint8_t kind, uint8_t is_path, uint8_t tag, uint32_t place, uint32_t len) {
-    const uint8_t kinds[1][2] = {{is_path, tag}};
+static uint8_t compose_one(uint8_t kind, uint8_t item_kind, uint8_t tag, uint32_t place, uint32_t len) {
+    const uint8_t kinds[1][2] = {{item_kind, tag}};
     const uint32_t spans[1][2] = {{place, len}};
     return compose(kind, kinds, 1, spans, 1, 1);
 }
@@ -495,7 +494,11 @@ static void composing(void) {
         rssis[i] = -1;
         snrs[i] = -1;
     }
-    const uint8_t kinds[32][2] = {{0, 1}, {0, 1}};
+    uint8_t kinds[32][2];
+    for (size_t i = 0; i < 32; i++) {
+        kinds[i][0] = MESH_ITEM_PROPRIETARY;
+        kinds[i][1] = 1;
+    }
     uint32_t spans[32][2] = {{0, 256}, {301, 1}};
     static const uint64_t counts[] = {1, 2, UINT64_MAX};
     for (size_t i = 0; i < COUNT(counts); i++) {
@@ -507,23 +510,28 @@ static void composing(void) {
     CHECK(compose(MESH_EVENT, kinds, 2, spans, 2, 2) == 45 && compose(MESH_EVENT, kinds, 2, spans, 2, 1) == 19);
     static const uint32_t outside[][2] = {{301, 1}, {300, 1}, {0, 301}, {UINT32_MAX, 1}, {1, UINT32_MAX}, {UINT32_MAX, UINT32_MAX}};
     for (size_t i = 0; i < COUNT(outside); i++)
-        for (uint8_t is_path = 0; is_path < 2; is_path++)
+        for (uint8_t item_kind = MESH_ITEM_HEARTBEAT; item_kind <= MESH_ITEM_PATH; item_kind++)
             for (uint8_t kind = MESH_EVENT; kind <= MESH_COMMAND; kind++)
-                CHECK(compose_one(kind, is_path, 1, outside[i][0], outside[i][1]) == 45);
+                CHECK(compose_one(kind, item_kind, 1, outside[i][0], outside[i][1]) ==
+                      (kind == MESH_COMMAND && item_kind != MESH_ITEM_PROPRIETARY ? 29 : 45));
     for (uint8_t kind = MESH_EVENT; kind <= MESH_COMMAND; kind++) {
-        CHECK(compose_one(kind, 0, 1, 0, 256) == 19);
-        CHECK(compose_one(kind, 0, 1, 45, 255) == 0 && written_length == 270 && memcmp(written + 11, value + 45, 255) == 0);
-        CHECK(compose_one(kind, 0, 1, 300, 0) == 0 && written_length == 15);
-        CHECK(compose_one(kind, 0, 1, UINT32_MAX, 0) == 0 && written_length == 15);
-        CHECK(compose_one(kind, 0, 0, 0, 5) == (kind == MESH_EVENT ? 20 : 0));
-        CHECK(compose_one(kind, 0, 0, 0, 6) == 0);
+        const uint8_t any = MESH_ITEM_PROPRIETARY;
+        CHECK(compose_one(kind, any, 1, 0, 256) == 19);
+        CHECK(compose_one(kind, any, 1, 45, 255) == 0 && written_length == 270 && memcmp(written + 11, value + 45, 255) == 0);
+        CHECK(compose_one(kind, any, 1, 300, 0) == 0 && written_length == 15);
+        CHECK(compose_one(kind, any, 1, UINT32_MAX, 0) == 0 && written_length == 15);
+        CHECK(compose_one(kind, any, 0, 0, 5) == (kind == MESH_EVENT ? 20 : 0));
+        CHECK(compose_one(kind, any, 0, 0, 6) == 0);
     }
-    CHECK(compose_one(MESH_EVENT, 1, 9, 0, 43) == 19 && compose_one(MESH_EVENT, 1, 9, 9, 42) == 45);
-    CHECK(compose_one(MESH_EVENT, 1, 9, 8, 42) == 0 && written_length == 267 && memcmp(written + 9, "\0\374\0\0\0\10\1\77", 8) == 0);
-    CHECK(compose_one(MESH_EVENT, 255, 9, 50, 0) == 0 && written_length == 15);
+    /* A heartbeat in bytes, and a path, have tag 0 whatever stands beside them. */
+    CHECK(compose_one(MESH_EVENT, MESH_ITEM_HEARTBEAT, 9, 0, 5) == 20 && compose_one(MESH_EVENT, MESH_ITEM_HEARTBEAT, 9, 0, 258) == 19);
+    CHECK(compose_one(MESH_EVENT, MESH_ITEM_HEARTBEAT, 9, 250, 6) == 0 && written_length == 21 && memcmp(written + 9, "\0\6\372\373\374\375\376\77", 8) == 0);
+    CHECK(compose_one(MESH_EVENT, MESH_ITEM_PATH, 9, 0, 43) == 19 && compose_one(MESH_EVENT, MESH_ITEM_PATH, 9, 9, 42) == 45);
+    CHECK(compose_one(MESH_EVENT, MESH_ITEM_PATH, 9, 8, 42) == 0 && written_length == 267 && memcmp(written + 9, "\0\374\0\0\0\10\1\77", 8) == 0);
+    CHECK(compose_one(MESH_EVENT, MESH_ITEM_PATH, 9, 50, 0) == 0 && written_length == 15);
 
     /* The three lists of a path reach as far as the shortest. */
-    const uint8_t path[1][2] = {{1, 0}};
+    const uint8_t path[1][2] = {{MESH_ITEM_PATH, 0}};
     const uint32_t two[1][2] = {{0, 2}}, one[1][2] = {{0, 1}};
     for (size_t i = 0; i < 3; i++) {
         mesh_lent l = {NULL, 0, NULL, 0, path, 1, two, 1, ids, i == 0 ? 1 : 9, rssis, i == 1 ? 1 : 9, snrs, i == 2 ? 1 : 9};
@@ -537,8 +545,8 @@ static void composing(void) {
     for (uint8_t i = 0; i < 4; i++) {
         rssis[49] = bad_rssi[i];
         snrs[49] = bad_snr[i];
-        CHECK(compose_one(MESH_EVENT, 1, 0, 0, 50) == 10 + i && compose_one(MESH_EVENT, 1, 0, 49, 1) == 10 + i);
-        CHECK(compose_one(MESH_EVENT, 1, 0, 0, 49) == 19);
+        CHECK(compose_one(MESH_EVENT, MESH_ITEM_PATH, 0, 0, 50) == 10 + i && compose_one(MESH_EVENT, MESH_ITEM_PATH, 0, 49, 1) == 10 + i);
+        CHECK(compose_one(MESH_EVENT, MESH_ITEM_PATH, 0, 0, 49) == 19);
     }
 
     /* 31 items of 257 bytes and one of 212 are 8,179. */
@@ -552,11 +560,57 @@ static void composing(void) {
     CHECK(compose(MESH_COMMAND, kinds, 32, spans, 31, 32) == 45);
 }
 
+/* What every call answers of a packet that has a code which is none: 29, before 6 and 7, 27, 45 and 21. */
+static void none(mesh_packet p, const mesh_lent *l) {
+    static const uint8_t hop_counts[] = {0, 1, 9};
+    for (size_t i = 0; i < COUNT(hop_counts); i++)
+        for (unsigned mic = 0; mic < 2; mic++) {
+            p.hop_count = hop_counts[i];
+            p.has_mic = mic;
+            CHECK(do_write(false, &p, l, 0) == 29 && do_write(true, &p, l, 0) == 29 && do_seal(&p, l, 0) == 29);
+            CHECK(do_sign(&p, l) == 29 && do_validate(&p, l) == 29);
+        }
+}
+
+static void codes(void) {
+    const uint32_t spans[2][2] = {{301, 1}, {0, 256}};
+    for (uint8_t kind = MESH_EVENT; kind <= MESH_COMMAND; kind++) {
+        for (unsigned item_kind = 0; item_kind < 256; item_kind++) {
+            const bool is_one = item_kind == MESH_ITEM_PROPRIETARY || (kind == MESH_EVENT && item_kind >= 1 && item_kind <= 3);
+            const uint8_t kinds[2][2] = {{MESH_ITEM_PROPRIETARY, 1}, {(uint8_t)item_kind, 1}};
+            const mesh_lent l = {NULL, 0, value, 300, kinds, 2, spans, 2, ids, 50, rssis, 50, snrs, 50};
+            mesh_packet p = at(kind, MESH_ITEMS, 0, 2);
+            if (is_one) {
+                CHECK(do_write(false, &p, &l, 0) == 45 && do_seal(&p, &l, 0) == 45 && do_sign(&p, &l) == 45);
+            } else {
+                none(p, &l);
+                /* One that the body does not count is not looked at. */
+                p.len = 1;
+                CHECK(do_write(false, &p, &l, 0) == 45);
+            }
+        }
+        const mesh_lent l = mesh_lent_frame(value, 3);
+        for (unsigned body = 5; body < 256; body++)
+            for (uint64_t len = 0; len < 6; len += 3) {
+                mesh_packet p = at(kind, (uint8_t)body, 1, len);
+                none(p, &l);
+                CHECK(do_decrypt(&p, value, 3, NULL, 0) == 29 && do_decode(&p, value, 3, NULL, 0) == 29);
+            }
+    }
+    /* Of the others the body is not looked at. */
+    const mesh_lent l = mesh_lent_frame(value, 3);
+    for (uint8_t kind = MESH_UPLINK; kind <= MESH_LORA; kind++) {
+        if (kind == MESH_EVENT || kind == MESH_COMMAND) continue;
+        mesh_packet p = at(kind, 255, 0, 3);
+        CHECK(do_write(false, &p, &l, 99) == 0 && do_write(true, &p, &l, 99) == (kind == MESH_LORA ? 29 : 0));
+    }
+}
+
 /* Frame, work and key are parts of one allocation that overlap. */
 static void shared(void) {
     uint8_t *b = room(40);
     for (size_t i = 0; i < 40; i++) b[i] = (uint8_t)i;
-    const uint8_t kinds[2][2] = {{0, 1}, {0, 2}};
+    const uint8_t kinds[2][2] = {{MESH_ITEM_PROPRIETARY, 1}, {MESH_ITEM_PROPRIETARY, 2}};
     const uint32_t spans[2][2] = {{0, 3}, {1, 3}};
     const mesh_lent l = {b + 4, 26, b + 10, 30, kinds, 2, spans, 2, NULL, 0, NULL, 0, NULL, 0};
     mesh_packet p = at(MESH_EVENT, MESH_ITEMS, 0, 2);
@@ -603,6 +657,27 @@ static void hops(void) {
         }
     }
     free(b);
+}
+
+/* The hop edit as mesh.h's comment has it. */
+static bool pass_on(uint8_t *frame, size_t n, const uint8_t key[16]) {
+    mesh_packet p;
+    mesh_lent lent = mesh_lent_frame(frame, n);
+    bool valid = false, edited = false;
+    if (mesh_packet_read_mesh(&p, frame, n) == 0 && mesh_packet_validate(&p, key, &lent, &valid) == 0 && valid)
+        edited = mesh_set_hop_count(key, frame, n, (uint8_t)(p.hop_count + 1)) == 0;
+    return edited;
+}
+
+/* What is valid goes on with one hop more, up to the eighth; what is forged stays as it is, and would not if it were not validated. */
+static void validated(void) {
+    uint8_t *b = bytes(0xe0, 20), *forged = copy(b, 20);
+    CHECK(!pass_on(b, 20, KEY) && memcmp(b, forged, 20) == 0);
+    CHECK(mesh_set_hop_count(KEY, b, 20, 1) == 0 && memcmp(b + 16, forged + 16, 4) != 0);
+    for (uint8_t hop = 1; hop < 8; hop++) CHECK(pass_on(b, 20, KEY) && b[0] == (0xe0 | hop));
+    CHECK(!pass_on(b, 20, KEY) && b[0] == 0xe7 && !pass_on(b, 13, KEY));
+    free(b);
+    free(forged);
 }
 
 static void sealing(void) {
@@ -677,22 +752,118 @@ static void items(void) {
     CHECK(do_item(true, ones, 8180, 0) == 5 && do_item(false, ones, 8180, UINT64_MAX) == 5 && do_count(true, ones, 8180) == 5);
     CHECK(do_count(false, ones, 8179) == 0 && counted(2726, 0, 8178, 0, 1, 0));
     CHECK(do_item(true, ones, 8179, 0) == 0 && found(MESH_KEPT, 2, 1, 2, 1, 3));
-    CHECK(do_item(true, ones, 8179, 8178) == 0 && found(MESH_CUT, 0, 0, 8178, 1, 0));
+    CHECK(do_item(true, ones, 8179, 8178) == 0 && found(MESH_CUT, 0, 0, 8178, 1, 8179));
     static const uint64_t far[] = {8179, 8180, UINT64_MAX, UINT64_MAX - 1, 1ull << 63};
     for (size_t i = 0; i < COUNT(far); i++) {
-        CHECK(do_item(true, ones, 8179, far[i]) == 0 && found(MESH_END, 0, 0, 0, 0, 0));
+        CHECK(do_item(true, ones, 8179, far[i]) == 0 && found(MESH_END, 0, 0, 0, 0, 8179));
         CHECK(do_item(false, NULL, 0, far[i]) == 0 && found(MESH_END, 0, 0, 0, 0, 0));
     }
     CHECK(do_count(true, NULL, 0) == 0 && counted(0, 0, 0, 0, 0, 1));
     static const uint8_t six[] = {0, 6, 1, 2, 3, 4, 5, 6}, five[] = {0, 5, 1, 2, 3, 4, 5};
-    CHECK(do_item(true, six, 8, 0) == 0 && found(MESH_KEPT, 1, 0, 2, 6, 8));
-    CHECK(do_item(true, five, 7, 0) == 0 && found(MESH_SKIPPED, 1, 0, 2, 5, 7));
-    CHECK(do_item(false, five, 7, 0) == 0 && found(MESH_KEPT, 2, 0, 2, 5, 7));
-    for (size_t n = 1; n < 8; n++) CHECK(do_item(true, six, n, 0) == 0 && found(MESH_CUT, 0, 0, 0, n, 0));
+    CHECK(do_item(true, six, 8, 0) == 0 && found(MESH_KEPT, MESH_ITEM_HEARTBEAT, 0, 2, 6, 8));
+    CHECK(do_item(true, five, 7, 0) == 0 && found(MESH_SKIPPED, MESH_ITEM_HEARTBEAT, 0, 2, 5, 7));
+    CHECK(do_item(false, five, 7, 0) == 0 && found(MESH_KEPT, MESH_ITEM_PROPRIETARY, 0, 2, 5, 7));
+    for (size_t n = 1; n < 8; n++) CHECK(do_item(true, six, n, 0) == 0 && found(MESH_CUT, 0, 0, 0, n, n));
     /* Example P11 of document 01. */
     static const uint8_t p11[] = {1, 2, 0xaa, 0xbb, 0, 5, 1, 2, 3, 4, 5, 2, 0, 3, 9, 0xcc};
     CHECK(do_count(true, p11, sizeof p11) == 0 && counted(2, 1, 6, 7, 3, 0));
     CHECK(do_count(false, p11, sizeof p11) == 0 && counted(3, 0, 13, 0, 3, 0));
+}
+
+/* The loops as mesh.h's comments have them (tools/bindings looks). */
+
+static void walked(bool is_event, const uint8_t *payload, size_t n) {
+    uint64_t at = 0, item[6];
+    while (mesh_item(is_event, payload, n, at, item) == 0 && item[0] != MESH_END) at = item[5];
+    CHECK(at == n);
+}
+
+static uint8_t kept_kinds[4096][2];
+static uint32_t kept_spans[4096][2];
+static size_t kept_count;
+static const uint8_t *kept_from;
+
+static void keep(uint8_t kind, uint8_t tag, const uint8_t *at, size_t len) {
+    kept_kinds[kept_count][0] = kind;
+    kept_kinds[kept_count][1] = tag;
+    kept_spans[kept_count][0] = (uint32_t)(at - kept_from);
+    kept_spans[kept_count++][1] = (uint32_t)len;
+}
+
+static uint8_t keep_all(bool is_event, const uint8_t *payload, size_t n) {
+    kept_from = payload;
+    kept_count = 0;
+    mesh_items it = mesh_items_begin(is_event, payload, n);
+    while (mesh_items_next(&it))
+        if (it.found == MESH_KEPT) keep(it.kind, it.tag, it.value, it.len);
+    if (it.refused) return it.refused;
+    return 0;
+}
+
+/* A payload walked: it ends within as many steps as it has bytes, by the place behind each and by the iterator, which say the same; the sums
+ * are what mesh_count says. Its kept items, lent back as they were read, are written, sealed and signed as the open payload itself is. */
+static void walk(uint8_t kind, const uint8_t *from, size_t n) {
+    const bool is_event = kind == MESH_EVENT;
+    uint8_t *payload = copy(from, n);
+    uint64_t place = 0, items = 0, skipped = 0, kept_bytes = 0, skipped_bytes = 0, cut_bytes = 0;
+    mesh_items it = mesh_items_begin(is_event, payload, n);
+    CHECK(it.found == MESH_END && it.refused == 0);
+    while (mesh_items_next(&it)) {
+        CHECK(do_item(is_event, payload, n, place) == 0);
+        CHECK(found(it.found, it.kind, it.tag, it.place, it.len, item_found[5]) && it.value == payload + it.place);
+        CHECK(item_found[5] > place && item_found[5] <= n);
+        items += it.found == MESH_KEPT;
+        skipped += it.found == MESH_SKIPPED;
+        *(it.found == MESH_KEPT ? &kept_bytes : it.found == MESH_SKIPPED ? &skipped_bytes : &cut_bytes) += item_found[5] - place;
+        place = item_found[5];
+    }
+    CHECK(place == n && it.found == MESH_END && it.refused == 0 && !mesh_items_next(&it));
+    CHECK(do_count(is_event, payload, n) == 0 && counted(items, skipped, kept_bytes, skipped_bytes, cut_bytes, skipped + cut_bytes == 0));
+    walked(is_event, payload, n);
+    CHECK(keep_all(is_event, payload, n) == 0 && kept_count == items);
+    const mesh_lent l = {NULL, 0, payload, n, kept_kinds, kept_count, kept_spans, kept_count, NULL, 0, NULL, 0, NULL, 0};
+    const mesh_packet open = at(kind, MESH_OPEN_IN_WORK, 0, n), again = at(kind, MESH_ITEMS, 0, kept_count);
+    uint8_t *first = room(8192);
+    CHECK(do_write(false, &open, &l, 8192) == 0);
+    const uint64_t length = written_length;
+    memcpy(first, written, length);
+    CHECK(length == 13 + kept_bytes && do_write(false, &again, &l, 8192) == 0 && written_length == length && memcmp(first, written, length) == 0);
+    CHECK(do_seal(&open, &l, n) == 0);
+    memcpy(first, written, kept_bytes);
+    CHECK(do_seal(&again, &l, kept_bytes) == 0 && place_after[2] == kept_bytes && memcmp(first, written, kept_bytes) == 0);
+    CHECK(do_sign(&open, &l) == 0);
+    const uint32_t mic = mic_made;
+    CHECK(do_sign(&again, &l) == 0 && mic_made == mic);
+    free(first);
+    back(payload, from, n);
+}
+
+static void walks(void) {
+    static const uint8_t cut[] = {1, 1, 0xaa, 2, 9, 0};
+    /* A heartbeat with ignored bits, others of tag 0 and not, one that an event skips, and a cut tail. */
+    static const uint8_t many[] = {0, 6, 1, 2, 3, 4, 80, 0xc7, 1, 2, 0xaa, 0xbb, 0, 5, 1, 2, 3, 4, 5, 0, 0, 255, 1, 7, 3, 9, 0xcc};
+    uint8_t some[8180];
+    uint32_t seed = 1;
+    for (uint8_t kind = MESH_EVENT; kind <= MESH_COMMAND; kind++) {
+        for (size_t n = 0; n <= sizeof cut; n++) walk(kind, cut, n);
+        for (size_t n = 0; n <= sizeof many; n++) walk(kind, many, n);
+        for (unsigned i = 0; i < 300; i++) {
+            const size_t n = i < 296 ? i : i < 298 ? 4000 : 8179;
+            for (size_t k = 0; k < n; k++) {
+                seed = seed * 1664525u + 1013904223u;
+                /* Many zeros and sixes, so that there are heartbeats. */
+                some[k] = (seed >> 28) < 6 ? 0 : (seed >> 28) < 12 ? 6 : (uint8_t)(seed >> 16);
+            }
+            walk(kind, some, n);
+        }
+        memset(some, 0, sizeof some);
+        walk(kind, some, 8179);
+        CHECK(keep_all(kind == MESH_EVENT, some, 8180) == 5 && kept_count == 0);
+        mesh_items it = mesh_items_begin(kind == MESH_EVENT, some, 8180);
+        CHECK(!mesh_items_next(&it) && it.refused == 5 && !mesh_items_next(&it) && it.found == MESH_END);
+    }
+    CHECK(keep_all(true, cut, sizeof cut) == 0 && kept_count == 1 && kept_kinds[0][0] == MESH_ITEM_PROPRIETARY && kept_kinds[0][1] == 1);
+    CHECK(keep_all(true, many, sizeof many) == 0 && kept_count == 4 && kept_kinds[0][0] == MESH_ITEM_HEARTBEAT && kept_kinds[0][1] == 0);
 }
 
 static void stream(void) {
@@ -748,7 +919,7 @@ static uint8_t do_entry(const uint8_t *b, size_t n, uint64_t i) {
 }
 
 static void heartbeats(void) {
-    uint8_t *b = bytes(1, 258);
+    uint8_t *b = bytes(1, 300);
     CHECK(do_heartbeat(b, 256, 0, 0) == 19 && do_heartbeat(b, 258, 99, 0) == 19);
     CHECK(do_heartbeat(b, 255, 0, 0) == 20 && do_heartbeat(b, 1, 0, 0) == 20);
     CHECK(do_heartbeat(b, 252, 41, 0) == 21 && do_heartbeat(b, 6, 0, 0) == 21);
@@ -756,8 +927,12 @@ static void heartbeats(void) {
     /* Six times the last three is 2, 0 and 4 modulo 2^64. */
     static const uint64_t far[] = {2, UINT64_MAX, 0x2aaaaaaaaaaaaaab, 0x8000000000000000, 0x5555555555555556};
     for (size_t i = 0; i < COUNT(far); i++) CHECK(do_entry(b, 12, far[i]) == 45 && do_entry(b, 0, far[i]) == 45);
-    CHECK(do_entry(b, 0, 0) == 45 && do_entry(b, 5, 0) == 45);
+    CHECK(do_entry(b, 0, 0) == 45 && do_entry(b, 6, 1) == 45 && do_entry(b, 252, 42) == 45);
     for (uint64_t i = 0; i < 42; i++) CHECK(do_entry(b, 252, i) == 0);
+    /* What mesh_heartbeat refuses has no entries. */
+    for (size_t n = 0; n <= 300; n++)
+        for (uint64_t i = 0; i < 51; i++) CHECK(do_entry(b, n, i) == (n > 255 ? 19 : n % 6 ? 20 : i < n / 6 ? 0 : 45));
+    CHECK(do_entry(b, 7, UINT64_MAX) == 20 && do_entry(b, 300, UINT64_MAX) == 19);
     free(b);
 }
 
@@ -800,6 +975,185 @@ static void heartbeats_written(void) {
         const uint8_t r = do_heartbeat_write(a, i == 0 ? 1 : 2, b, i == 1 ? 1 : 2, c, i == 2 ? 1 : 2, 12);
         CHECK(r == 0 && written_length == 6);
     }
+}
+
+/* The same on structs. */
+
+static uint8_t do_entries_read(const uint8_t *b, size_t n, size_t places) {
+    uint8_t *v = copy(b, n);
+    mesh_path_entry *list = room(places * sizeof *list), *one = room(sizeof *one);
+    uint64_t *entries = room(sizeof *entries);
+    const uint8_t r = mesh_path_entries_read(v, n, list, places, entries);
+    const size_t count = r ? 0 : (size_t)*entries;
+    CHECK(do_heartbeat(b, n, places, count) == r && (r == 0 || untouched(entries, sizeof *entries)));
+    CHECK(count <= places && untouched(list + count, (places - count) * sizeof *list));
+    for (size_t i = 0; i < count; i++) {
+        uint32_t id;
+        int16_t rssi;
+        int8_t snr;
+        CHECK(mesh_heartbeat_entry(v, n, i, &id, &rssi, &snr) == 0 && mesh_path_entry_read(v, n, i, one) == 0);
+        CHECK(list[i].relay_id == id && list[i].rssi == rssi && list[i].snr == snr);
+        CHECK(one->relay_id == id && one->rssi == rssi && one->snr == snr);
+    }
+    memset(one, BEFORE, sizeof *one);
+    CHECK(mesh_path_entry_read(v, n, n / 6, one) == (n > 255 ? 19 : n % 6 ? 20 : 45) && untouched(one, sizeof *one));
+    if (count) {
+        /* Written again they are the value, but for the ignored bits. */
+        uint8_t *out = room(n);
+        uint64_t *length = room(sizeof *length);
+        CHECK(mesh_path_entries_write(list, count, out, n, length) == 0 && *length == n);
+        for (size_t i = 0; i < n; i++) CHECK(out[i] == (i % 6 == 5 ? v[i] & 63 : v[i]));
+        free(out);
+        free(length);
+    }
+    back(v, b, n);
+    free(list);
+    free(one);
+    free(entries);
+    return r;
+}
+
+static uint8_t do_entries_write(const mesh_path_entry *from, size_t n, size_t out_len) {
+    mesh_path_entry *list = copy(from, n * sizeof *list);
+    uint8_t *out = room(out_len);
+    uint64_t *length = room(sizeof *length);
+    const uint8_t r = mesh_path_entries_write(list, n, out, out_len, length);
+    wrote(r, out, out_len, length);
+    back(list, from, n * sizeof *list);
+    return r;
+}
+
+static void entries(void) {
+    uint8_t *b = bytes(1, 300);
+    for (size_t n = 0; n <= 300; n++)
+        for (size_t places = 0; places < 52; places++) CHECK(do_entries_read(b, n, places) == (n > 255 ? 19 : n % 6 ? 20 : n / 6 > places ? 21 : 0));
+    free(b);
+    mesh_path_entry list[100];
+    memset(list, 0, sizeof list);
+    for (size_t i = 0; i < 100; i++) {
+        list[i].relay_id = (uint32_t)i;
+        list[i].rssi = list[i].snr = -1;
+    }
+    for (size_t n = 0; n <= 100; n++) CHECK(do_entries_write(list, n, 6 * n) == (n > 42 ? 19 : 0) && (n > 42 || written_length == 6 * n));
+    CHECK(do_entries_write(list, 42, 251) == 21 && do_entries_write(list, 1, 0) == 21 && do_entries_write(list, 42, 300) == 0);
+    CHECK(memcmp(written + 246, "\0\0\0\51\1\77", 6) == 0);
+    /* The first bad entry comes before all else, wherever it stands. */
+    static const int16_t bad_rssi[] = {1, -256, 0, 0};
+    static const int8_t bad_snr[] = {32, 32, -33, 32};
+    static const size_t places[] = {0, 41, 42, 43, 44, 98};
+    for (uint8_t i = 0; i < 4; i++)
+        for (size_t k = 0; k < COUNT(places); k++) {
+            mesh_path_entry bad[100];
+            memcpy(bad, list, sizeof bad);
+            bad[places[k]].rssi = bad_rssi[i];
+            bad[places[k]].snr = bad_snr[i];
+            bad[99].rssi = i == 0 ? -256 : 1;
+            CHECK(do_entries_write(bad, 100, 0) == 10 + i && do_entries_write(bad, places[k] + 1, 600) == 10 + i);
+            CHECK(do_entries_write(bad, places[k], 600) == (places[k] > 42 ? 19 : 0));
+        }
+}
+
+/* ---- null
+
+ * Every function on structs with null for each of its slices: with a length it is 45, before the library is called, and nothing is changed;
+ * without one it is a slice of nothing. */
+
+static const size_t LENGTHS[] = {1, 13, 4000, SIZE_MAX};
+
+/* The number of every call that is lent these slices, of any packet. */
+static void lacking(const mesh_lent *l, uint8_t *out, size_t out_len) {
+    for (uint8_t kind = MESH_UPLINK; kind <= MESH_LORA; kind++)
+        for (uint8_t body = MESH_EMPTY; body <= MESH_ITEMS; body++) {
+            mesh_packet p = at(kind, body, 0, 1);
+            const mesh_packet before = p;
+            uint64_t length = 77;
+            bool valid = true;
+            CHECK(mesh_packet_write(&p, l, out, out_len, &length) == 45 && mesh_packet_write_body(&p, l, out, out_len, &length) == 45);
+            CHECK(mesh_packet_seal(&p, KEY, l, out, out_len) == 45 && length == 77);
+            if (out) CHECK(mesh_packet_sign(&p, KEY, l) == 45 && mesh_packet_validate(&p, KEY, l, &valid) == 45 && valid);
+            CHECK(p.kind == before.kind && p.mic == before.mic && p.body == before.body && p.start == before.start && p.len == before.len);
+        }
+}
+
+static void nulls(void) {
+    const uint8_t kinds[1][2] = {{MESH_ITEM_PROPRIETARY, 1}};
+    const uint32_t spans[1][2] = {{0, 1}};
+    const mesh_lent whole = {value, 3, value, 300, kinds, 1, spans, 1, ids, 50, rssis, 50, snrs, 50};
+    uint8_t *out = room(99);
+    mesh_packet p;
+    mesh_counts c;
+    uint64_t length = 77;
+    mesh_path_entry list[2];
+    memset(&c, BEFORE, sizeof c);
+    memset(list, BEFORE, sizeof list);
+    for (size_t i = 0; i < COUNT(LENGTHS); i++) {
+        const size_t n = LENGTHS[i];
+        memset(&p, BEFORE, sizeof p);
+        CHECK(mesh_packet_read(&p, NULL, n) == 45 && mesh_packet_read_mesh(&p, NULL, n) == 45);
+        for (unsigned kind = 0; kind < 256; kind++) CHECK(mesh_packet_read_body(&p, (uint8_t)kind, NULL, n) == 45);
+        CHECK(untouched(&p, sizeof p));
+
+        mesh_lent l = whole;
+        l.frame = NULL, l.frame_len = n;
+        lacking(&l, out, 99);
+        l = mesh_lent_frame(NULL, n);
+        lacking(&l, out, 99);
+        l = whole;
+        l.work = NULL, l.work_len = n;
+        lacking(&l, out, 99);
+        l = whole;
+        l.kinds = NULL, l.kinds_len = n;
+        lacking(&l, out, 99);
+        l = whole;
+        l.spans = NULL, l.spans_len = n;
+        lacking(&l, out, 99);
+        l = whole;
+        l.ids = NULL, l.ids_len = n;
+        lacking(&l, out, 99);
+        l = whole;
+        l.rssis = NULL, l.rssis_len = n;
+        lacking(&l, out, 99);
+        l = whole;
+        l.snrs = NULL, l.snrs_len = n;
+        lacking(&l, out, 99);
+        lacking(&whole, NULL, n);
+
+        for (uint8_t kind = MESH_UPLINK; kind <= MESH_LORA; kind++)
+            for (uint8_t body = MESH_EMPTY; body <= MESH_ITEMS; body++) {
+                p = at(kind, body, 0, 1);
+                CHECK(mesh_packet_decrypt(&p, KEY, NULL, n, out, 99, &c) == 45 && mesh_packet_decrypt(&p, KEY, value, 3, NULL, n, &c) == 45);
+                CHECK(mesh_packet_decode(&p, NULL, n, out, 99, &c) == 45 && mesh_packet_decode(&p, value, 3, NULL, n, &c) == 45);
+                CHECK(p.body == body && p.len == 1 && untouched(&c, sizeof c));
+            }
+
+        mesh_items it = mesh_items_begin(true, NULL, n);
+        CHECK(it.refused == 45 && !mesh_items_next(&it) && it.refused == 45 && it.found == MESH_END);
+        CHECK(mesh_path_entries_read(NULL, n, list, 2, &length) == 45 && mesh_path_entries_read(value, 6, NULL, n, &length) == 45);
+        CHECK(mesh_path_entry_read(NULL, n, 0, list) == 45 && untouched(list, sizeof list));
+        CHECK(mesh_path_entries_write(NULL, n, out, 99, &length) == 45 && mesh_path_entries_write(list, 1, NULL, n, &length) == 45);
+        CHECK(length == 77 && untouched(out, 99));
+    }
+
+    /* Nothing of everything. */
+    CHECK(mesh_packet_read(&p, NULL, 0) == 1 && mesh_packet_read_mesh(&p, NULL, 0) == 1 && mesh_packet_read_body(&p, MESH_EVENT, NULL, 0) == 4);
+    p = good(MESH_EVENT);
+    bool valid = true;
+    CHECK(mesh_packet_write(&p, &NONE, NULL, 0, &length) == 21 && mesh_packet_write_body(&p, &NONE, NULL, 0, &length) == 21 && length == 77);
+    CHECK(mesh_packet_write(&p, &NONE, out, 13, &length) == 0 && length == 13);
+    CHECK(mesh_packet_validate(&p, KEY, &NONE, &valid) == 0 && !valid && mesh_packet_sign(&p, KEY, &NONE) == 0);
+    CHECK(mesh_packet_validate(&p, KEY, &NONE, &valid) == 0 && valid);
+    CHECK(mesh_packet_seal(&p, KEY, &NONE, NULL, 0) == 0 && p.body == MESH_EMPTY);
+    CHECK(mesh_packet_decrypt(&p, KEY, NULL, 0, NULL, 0, &c) == 0 && c.clean && mesh_packet_decode(&p, NULL, 0, NULL, 0, &c) == 0 && c.kept == 0);
+    p = at(MESH_LORA, 0, 0, 0);
+    CHECK(mesh_packet_write(&p, &NONE, NULL, 0, &length) == 0 && length == 0);
+    mesh_items it = mesh_items_begin(true, NULL, 0);
+    CHECK(!mesh_items_next(&it) && it.refused == 0);
+    CHECK(mesh_path_entries_read(NULL, 0, NULL, 0, &length) == 0 && length == 0 && mesh_path_entries_read(value, 6, NULL, 0, &length) == 21);
+    CHECK(mesh_path_entry_read(NULL, 0, 0, list) == 45);
+    CHECK(mesh_path_entries_write(NULL, 0, NULL, 0, &length) == 0 && length == 0);
+    list[0].rssi = list[0].snr = 0;
+    CHECK(mesh_path_entries_write(list, 1, NULL, 0, &length) == 21);
+    free(out);
 }
 
 /* ---- fields */
@@ -1119,13 +1473,18 @@ int main(void) {
     reading();
     writing();
     composing();
+    codes();
     shared();
     hops();
+    validated();
     sealing();
     items();
+    walks();
     stream();
     heartbeats();
     heartbeats_written();
+    entries();
+    nulls();
     fields();
     metadata();
     keys();

@@ -339,11 +339,11 @@ static void item(bool is_event, slice s) {
     } else if (is_event && is(name, "hb")) {
         size_t start = ids.n;
         path(s);
-        lend_item(1, 0, start, ids.n - start);
+        lend_item(MESH_ITEM_PATH, 0, start, ids.n - start);
     } else {
         uint8_t tag = u8_of(name);
         span value = unhex(&work, s);
-        lend_item(0, tag, value.start, value.len);
+        lend_item(MESH_ITEM_PROPRIETARY, tag, value.start, value.len);
     }
 }
 
@@ -452,51 +452,41 @@ static void put_entry(uint32_t relay_id, int16_t rssi, int8_t snr) {
     put_number(snr);
 }
 
-static uint8_t put_path(const uint8_t *value, size_t n, uint64_t entries) {
+static void put_path(const mesh_path_entry *list, uint64_t entries) {
     for (uint64_t i = 0; i < entries; i++) {
-        uint32_t relay_id;
-        int16_t rssi;
-        int8_t snr;
-        uint8_t r = mesh_heartbeat_entry(value, n, i, &relay_id, &rssi, &snr);
-        if (r) return r;
         if (i > 0) put(";");
-        put_entry(relay_id, rssi, snr);
+        put_entry(list[i].relay_id, list[i].rssi, list[i].snr);
     }
-    return 0;
 }
 
-/* an item of a clear payload; how many places there are for a path does not matter here */
-static uint8_t put_item(const uint8_t *payload, const uint64_t found[6]) {
-    const uint8_t *value = payload + found[3];
-    size_t n = (size_t)found[4];
-    if (found[1] != 1) {
-        put_number((int64_t)found[2]), put("=");
-        put_digits(value, n);
+/* an item of a clear payload */
+static uint8_t put_item(const mesh_items *it) {
+    if (it->kind != MESH_ITEM_HEARTBEAT) {
+        put_number(it->tag), put("=");
+        put_digits(it->value, it->len);
         return 0;
     }
+    mesh_path_entry list[MESH_PATH_MOST];
     uint64_t entries;
-    uint8_t r = mesh_heartbeat(value, n, UINT32_MAX, &entries);
+    uint8_t r = mesh_path_entries_read(it->value, it->len, list, MESH_PATH_MOST, &entries);
     if (r) return r;
     put("hb=");
-    return put_path(value, n, entries);
+    put_path(list, entries);
+    return 0;
 }
 
 /* a BODY of the items that a clear payload keeps */
 static uint8_t put_kept(bool is_event, const uint8_t *payload, size_t n) {
-    uint64_t found[6] = {0}, at = 0;
+    mesh_items it = mesh_items_begin(is_event, payload, n);
     bool any = false;
-    for (;;) {
-        uint8_t r = mesh_item(is_event, payload, n, at, found);
+    while (mesh_items_next(&it)) {
+        if (it.found != MESH_KEPT) continue;
+        put(any ? "," : "open:");
+        uint8_t r = put_item(&it);
         if (r) return r;
-        if (found[0] == MESH_END || found[0] == MESH_CUT) break;
-        if (found[0] == MESH_KEPT) {
-            put(any ? "," : "open:");
-            r = put_item(payload, found);
-            if (r) return r;
-            any = true;
-        }
-        at = found[5];
+        any = true;
     }
+    if (it.refused) return it.refused;
     if (!any) put("empty");
     return 0;
 }
@@ -773,22 +763,20 @@ static uint8_t do_items(void) {
     span s = hex();
     if (!whole()) return 0;
     slice b = bytes_of(s);
-    uint64_t numbers[6] = {0}, found[6] = {0}, at = 0;
+    uint64_t numbers[6] = {0};
     mesh_counts c;
     uint8_t r = mesh_count(is_event, b.at, b.n, numbers);
     if (r) return r;
     mesh_counts_from(&c, numbers);
     put_counts(&c);
-    do {
-        r = mesh_item(is_event, b.at, b.n, at, found);
-        if (r) return r;
-        at = found[5];
-        if (found[0] == MESH_END) break;
-        put(found[0] == MESH_KEPT ? " kept:" : found[0] == MESH_SKIPPED ? " skip:" : " cut:");
-        if (found[0] != MESH_CUT) put_number((int64_t)found[2]), put(":");
-        put_number((int64_t)found[3]), put(":");
-        put_number((int64_t)found[4]);
-    } while (found[0] != MESH_CUT);
+    mesh_items it = mesh_items_begin(is_event, b.at, b.n);
+    while (mesh_items_next(&it)) {
+        put(it.found == MESH_KEPT ? " kept:" : it.found == MESH_SKIPPED ? " skip:" : " cut:");
+        if (it.found != MESH_CUT) put_number(it.tag), put(":");
+        put_number((int64_t)it.place), put(":");
+        put_number((int64_t)it.len);
+    }
+    if (it.refused) return it.refused;
     put(" ");
     return put_kept(is_event, b.at, b.n);
 }
@@ -934,14 +922,16 @@ static uint8_t do_pathw(void) {
 
 static uint8_t do_hb(void) {
     span s = hex();
+    mesh_path_entry list[MESH_PATH_MOST];
     uint64_t entries = 0;
     if (!whole()) return 0;
     slice b = bytes_of(s);
-    uint8_t r = mesh_heartbeat(b.at, b.n, UINT32_MAX, &entries);
+    uint8_t r = mesh_path_entries_read(b.at, b.n, list, MESH_PATH_MOST, &entries);
     if (r) return r;
     put_number((int64_t)entries), put(" ");
     if (entries == 0) put("-");
-    return put_path(b.at, b.n, entries);
+    put_path(list, entries);
+    return 0;
 }
 
 static uint8_t do_hbw(void) {

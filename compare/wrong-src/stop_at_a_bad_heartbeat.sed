@@ -1,2 +1,2 @@
 # port.c: reading ends at a heartbeat that is skipped
-s/^        if (found\[0\] == MESH_END || found\[0\] == MESH_CUT) break;/        if (found[0] != MESH_KEPT) break;/
+s/^        if (it.found != MESH_KEPT) continue;/        if (it.found != MESH_KEPT) break;/

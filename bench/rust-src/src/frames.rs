@@ -1,5 +1,5 @@
 //! The frames that are timed: the same few of each length for both sides, from a fixed seed.
-use crate::port;
+use crate::{port, sys};
 use original::aes128::Aes128Key;
 use original::packets::*;
 use std::time::{Duration, UNIX_EPOCH};
@@ -105,7 +105,7 @@ pub fn events(length: usize) -> Vec<Told> {
             if payload > 1 {
                 for n in lengths(payload) {
                     let (tag, value) = ((random.next() % 255) as u8 + 1, random.bytes(n - 2));
-                    kinds.push([0, tag]);
+                    kinds.push([sys::MESH_ITEM_PROPRIETARY, tag]);
                     spans.push([values.len() as u32, value.len() as u32]);
                     values.extend_from_slice(&value);
                     items.push(Event::Proprietary((tag, value)));

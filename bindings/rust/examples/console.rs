@@ -1,6 +1,6 @@
-//! What a console does with each frame that it receives: it reads the frame, validates it, looks it up, opens it, and finds the relay. The
-//! frames are built in; `examples/console.c` has the same and prints the same.
-use lemikanto::{receive, Cache, Found, Items, Kept, Key, Keys, Payload, ReceiveError, Received, RelayId, PAYLOAD_MOST};
+//! What a console does with each frame that it receives: it reads the frame, validates it, looks it up, opens it, finds the relay, and
+//! passes on what is valid and new with one hop more. The frames are built in; `examples/console.c` has the same and prints the same.
+use lemikanto::{receive, set_hop_count, Cache, Found, Items, Kept, Key, Keys, Payload, ReceiveError, Received, RelayId, PAYLOAD_MOST};
 
 /// An uplink, the same over one hop more, a forged one, a sealed event of a heartbeat and another item, a command, a LoRa frame, an uplink
 /// of a relay that is not listed, and what is no frame. They are signed and sealed with the keys that are derived from [`ROOT`].
@@ -75,16 +75,35 @@ fn print(received: &Received) -> Result<(), ReceiveError> {
     Ok(())
 }
 
+/// One hop more, in the frame's own buffer. The hop edit signs whatever it is given, so only a frame that was validated comes here: a forged
+/// one would go on with a good MIC.
+fn pass_on(frame: &mut [u8], hop_count: u8, keys: &Keys) {
+    match set_hop_count(frame, hop_count + 1, &keys.signing) {
+        Ok(()) => println!("  passed on: {}", hex(frame)),
+        Err(r) => println!("  not passed on: refused {}", r.number()),
+    }
+}
+
 fn main() -> Result<(), ReceiveError> {
     let root: Key = ROOT.parse()?;
     let keys = Keys::from_root(&root);
     let mut cache = Cache::new(64)?;
     let mut work = [0; PAYLOAD_MOST];
     for digits in FRAMES {
-        match receive(&bytes(digits), &keys, &mut cache, &mut work) {
-            Ok(received) => print(&received)?,
+        let mut frame = bytes(digits);
+        let mut new = None;
+        match receive(&frame, &keys, &mut cache, &mut work) {
+            Ok(received) => {
+                print(&received)?;
+                if let Received::New { packet, .. } = received {
+                    new = Some(packet.mhdr.hop_count);
+                }
+            }
             Err(ReceiveError::NotValid) => println!("not valid"),
             Err(ReceiveError::Refused(r)) => println!("refused {}", r.number()),
+        }
+        if let Some(hop_count) = new {
+            pass_on(&mut frame, hop_count, &keys);
         }
     }
     Ok(())

@@ -1,7 +1,8 @@
 //! The items of events and commands, read and composed, and heartbeats.
 use crate::fields::RelayPath;
 use crate::raw;
-use crate::raw::Lent;
+use crate::raw::{At, Lent};
+use crate::sys::{MESH_CUT, MESH_ITEM_HEARTBEAT, MESH_ITEM_PATH, MESH_ITEM_PROPRIETARY, MESH_KEPT, MESH_SKIPPED};
 use crate::Refusal;
 use crate::{part, PATH_MOST};
 
@@ -103,11 +104,20 @@ pub enum Kept<'a> {
 }
 
 impl Kept<'_> {
-    /// The item with its own bytes.
+    /// The item of an event, with its own bytes. Composed again it is written as it stood, but for the ignored bits of a path, which are 0.
     pub fn to_item(&self) -> Item {
         match self {
             Kept::Heartbeat(h) => Item::Heartbeat(h.relay_path()),
             Kept::Proprietary(tag, value) => Item::Proprietary(*tag, value.to_vec()),
+        }
+    }
+
+    /// The item of a command, with its own bytes. Composed again it is written as it stood. A heartbeat is none of a command's:
+    /// [`Refusal::TypeLarge`].
+    pub fn to_command(&self) -> Result<Command, Refusal> {
+        match self {
+            Kept::Heartbeat(_) => Err(Refusal::TypeLarge),
+            Kept::Proprietary(tag, value) => Ok(Command::Proprietary(*tag, value.to_vec())),
         }
     }
 }
@@ -153,21 +163,13 @@ impl<'a> Items<'a> {
         self.opening
     }
 
-    fn found(&self, item: [u64; 6]) -> Result<Option<(Found<'a>, u64)>, Refusal> {
-        const KEPT: u64 = 1;
-        const SKIPPED: u64 = 2;
-        const CUT: u64 = 3;
-        const HEARTBEAT: u64 = 1;
-        let [what, kind, tag, start, len, next] = item;
-        Ok(match what {
-            KEPT => {
-                let value = part(self.payload, start, len)?;
-                let kept =
-                    if kind == HEARTBEAT { Kept::Heartbeat(Heartbeat::from_slice(value)?) } else { Kept::Proprietary(tag as u8, value) };
-                Some((Found::Kept(kept), next))
-            }
-            SKIPPED => Some((Found::Skipped(part(self.payload, start, len)?), next)),
-            CUT => Some((Found::Cut(part(self.payload, start, len)?), self.payload.len() as u64)),
+    fn found(&self, item: &At) -> Result<Option<Found<'a>>, Refusal> {
+        let value = part(self.payload, item.start, item.len)?;
+        Ok(match item.found {
+            MESH_KEPT if item.kind == MESH_ITEM_HEARTBEAT => Some(Found::Kept(Kept::Heartbeat(Heartbeat::from_slice(value)?))),
+            MESH_KEPT => Some(Found::Kept(Kept::Proprietary(item.tag, value))),
+            MESH_SKIPPED => Some(Found::Skipped(value)),
+            MESH_CUT => Some(Found::Cut(value)),
             _ => None,
         })
     }
@@ -179,9 +181,8 @@ impl<'a> Iterator for Items<'a> {
     fn next(&mut self) -> Option<Found<'a>> {
         // The one refusal of an item is the payload's length, which `new` has met.
         let item = raw::item(self.is_event, self.payload, self.at).ok()?;
-        let (found, next) = self.found(item).ok()??;
-        self.at = next;
-        Some(found)
+        self.at = item.next;
+        self.found(&item).ok()?
     }
 }
 
@@ -224,7 +225,7 @@ fn narrow(n: usize) -> u32 {
 
 impl Lists {
     fn path(&mut self, path: &[RelayPath]) {
-        self.kinds.push([1, 0]);
+        self.kinds.push([MESH_ITEM_PATH, 0]);
         self.spans.push([narrow(self.ids.len()), narrow(path.len())]);
         self.ids.extend(path.iter().map(|p| p.relay_id.number()));
         self.rssis.extend(path.iter().map(|p| p.rssi));
@@ -234,7 +235,7 @@ impl Lists {
     fn value(&mut self, tag: u8, value: &[u8]) {
         // One byte over the most is refused as any more are, and need not be copied.
         let value = value.get(..crate::ITEM_MOST + 1).unwrap_or(value);
-        self.kinds.push([0, tag]);
+        self.kinds.push([MESH_ITEM_PROPRIETARY, tag]);
         self.spans.push([narrow(self.values.len()), narrow(value.len())]);
         self.values.extend_from_slice(value);
     }

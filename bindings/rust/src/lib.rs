@@ -5,7 +5,7 @@
 //!
 //! Packets lend their payload from the frame they were read from, from the buffer they were sealed or opened into, or hold the items that a
 //! caller composes. `write` fills a lent slice and answers how many bytes; `to_vec` allocates one. Every refusal is a [`Refusal`] and
-//! changes nothing that was lent. No call panics.
+//! changes nothing that was lent. No call panics. The hop edit, [`set_hop_count`], signs whatever it is given: validate first.
 //!
 //! ```
 //! use lemikanto::{receive, Cache, Key, Keys, Received};

@@ -5,16 +5,9 @@ use crate::items::{Command, Composed, Item, Items, Lists, Opening};
 use crate::keys::Key;
 use crate::raw;
 use crate::raw::{Flat, Place};
+use crate::sys::{MESH_EMPTY, MESH_ITEMS, MESH_LORA, MESH_OPEN_IN_FRAME, MESH_OPEN_IN_WORK, MESH_SEALED};
 use crate::Refusal;
 use crate::{part, FRAME_MOST};
-
-// enum mesh_kind of what is no mesh packet, and enum mesh_body.
-const LORA: u8 = 4;
-const EMPTY: u8 = 0;
-const SEALED: u8 = 1;
-const OPEN_IN_FRAME: u8 = 2;
-const OPEN_IN_WORK: u8 = 3;
-const ITEMS: u8 = 4;
 
 /// Any frame.
 #[derive(Clone, Debug, PartialEq, Eq)]
@@ -29,7 +22,7 @@ impl<'a> Packet<'a> {
     /// Reads a frame: [`Refusal::FrameEmpty`], [`Refusal::FrameLong`], [`Refusal::FrameShort`], [`Refusal::BodyShort`].
     pub fn from_slice(frame: &'a [u8]) -> Result<Self, Refusal> {
         let f = raw::read(frame)?;
-        if f.kind == LORA {
+        if f.kind == MESH_LORA {
             return Ok(Packet::Lora(part(frame, f.start, f.len)?));
         }
         MeshPacket::of(&f, frame).map(Packet::Mesh)
@@ -40,7 +33,7 @@ impl<'a> Packet<'a> {
         match self {
             Packet::Mesh(p) => p.write(out),
             Packet::Lora(frame) => {
-                let f = Flat { kind: LORA, len: frame.len() as u64, ..Flat::default() };
+                let f = Flat { kind: MESH_LORA, len: frame.len() as u64, ..Flat::default() };
                 raw::write(&f, &Lists::default().lent(frame), out)
             }
         }
@@ -143,8 +136,8 @@ fn allocated(write: impl FnOnce(&mut [u8]) -> Result<usize, Refusal>) -> Result<
 impl<'a, I> Body<'a, I> {
     fn of(f: &Flat, frame: &'a [u8]) -> Result<Self, Refusal> {
         Ok(match f.body {
-            EMPTY => Body::Empty,
-            SEALED => Body::Sealed(part(frame, f.start, f.len)?),
+            MESH_EMPTY => Body::Empty,
+            MESH_SEALED => Body::Sealed(part(frame, f.start, f.len)?),
             _ => Body::Open(part(frame, f.start, f.len)?),
         })
     }
@@ -159,10 +152,10 @@ impl<'a, I> Body<'a, I> {
 
     fn place(&self) -> Place {
         let (body, len) = match self {
-            Body::Empty => (EMPTY, 0),
-            Body::Sealed(b) => (SEALED, b.len()),
-            Body::Open(b) => (OPEN_IN_FRAME, b.len()),
-            Body::Items(items) => (ITEMS, items.len()),
+            Body::Empty => (MESH_EMPTY, 0),
+            Body::Sealed(b) => (MESH_SEALED, b.len()),
+            Body::Open(b) => (MESH_OPEN_IN_FRAME, b.len()),
+            Body::Items(items) => (MESH_ITEMS, items.len()),
         };
         Place { body, start: 0, len: len as u64 }
     }
@@ -212,9 +205,9 @@ impl<'a, I> Body<'a, I> {
     /// Sealed or opened into other bytes. What keeps no item is empty from then on.
     fn moved(&mut self, to: Place, into: &'a [u8]) -> Result<(), Refusal> {
         *self = match to.body {
-            EMPTY => Body::Empty,
-            SEALED => Body::Sealed(part(into, to.start, to.len)?),
-            OPEN_IN_FRAME | OPEN_IN_WORK => Body::Open(part(into, to.start, to.len)?),
+            MESH_EMPTY => Body::Empty,
+            MESH_SEALED => Body::Sealed(part(into, to.start, to.len)?),
+            MESH_OPEN_IN_FRAME | MESH_OPEN_IN_WORK => Body::Open(part(into, to.start, to.len)?),
             // No call moves composed items; they stay.
             _ => return Ok(()),
         };
@@ -548,6 +541,37 @@ impl<'a> MeshPacket<'a> {
 
 /// Gives a received mesh frame another hop count and signs it again, in its buffer: what [`MeshPacket::from_slice`] refuses, then
 /// [`Refusal::HopsNone`], [`Refusal::HopsMany`].
+///
+/// It signs whatever it is given: the MIC that the frame came with is not looked at, and a forged frame comes out of it with a good one.
+/// Validate first:
+///
+/// ```
+/// use lemikanto::{set_hop_count, Key, MeshPacket, Refusal};
+///
+/// /// One hop more, of a frame that is valid; false where it is not, and then the frame is as it was.
+/// fn pass_on(frame: &mut [u8], signing: &Key) -> Result<bool, Refusal> {
+///     let packet = MeshPacket::from_slice(frame)?;
+///     if !packet.validate_mic(signing)? {
+///         return Ok(false);
+///     }
+///     let hop_count = packet.mhdr.hop_count + 1;
+///     set_hop_count(frame, hop_count, signing)?;
+///     Ok(true)
+/// }
+///
+/// // An event of nothing.
+/// let signing = Key::null();
+/// let mut frame = *b"\xf0\0\0\0\0\0\0\0\0\0\0\0\0";
+/// assert_eq!(pass_on(&mut frame, &signing), Ok(false));
+/// assert_eq!(frame[0], 0xf0);
+/// let mut packet = MeshPacket::from_slice(&frame)?;
+/// packet.set_mic(&signing)?;
+/// let mut frame = packet.to_vec()?;
+/// assert_eq!(pass_on(&mut frame, &signing), Ok(true));
+/// assert_eq!(frame[0], 0xf1);
+/// assert!(MeshPacket::from_slice(&frame)?.validate_mic(&signing)?);
+/// # Ok::<(), Refusal>(())
+/// ```
 pub fn set_hop_count(frame: &mut [u8], hop_count: u8, key: &Key) -> Result<(), Refusal> {
     raw::set_hop_count(key.bytes(), frame, hop_count)
 }

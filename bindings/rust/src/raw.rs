@@ -50,6 +50,17 @@ pub(crate) struct Place {
     pub len: u64,
 }
 
+/// What stands at a place of a clear payload; `start` and `len` are its value's, or all of a cut tail's.
+#[derive(Clone, Copy)]
+pub(crate) struct At {
+    pub found: u8,
+    pub kind: u8,
+    pub tag: u8,
+    pub start: u64,
+    pub len: u64,
+    pub next: u64,
+}
+
 /// What `mesh_decode` answers of a body that is open already.
 const ALREADY_OPEN: u8 = 255;
 
@@ -185,10 +196,11 @@ pub(crate) fn decode(p: &Flat, frame: &[u8], work: &[u8]) -> Result<Option<([u64
 
 // ---- items and heartbeats
 
-pub(crate) fn item(is_event: bool, payload: &[u8], at: u64) -> Result<[u64; 6], Refusal> {
+pub(crate) fn item(is_event: bool, payload: &[u8], at: u64) -> Result<At, Refusal> {
     let mut item = [0; 6];
     answer(unsafe { sys::mesh_item(is_event, payload.as_ptr(), payload.len(), at, &mut item) })?;
-    Ok(item)
+    let [found, kind, tag, start, len, next] = item;
+    Ok(At { found: found as u8, kind: kind as u8, tag: tag as u8, start, len, next })
 }
 
 pub(crate) fn count(is_event: bool, payload: &[u8]) -> Result<[u64; 6], Refusal> {

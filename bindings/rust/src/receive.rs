@@ -72,7 +72,8 @@ impl From<Refusal> for ReceiveError {
 
 /// Reads a frame, validates it, looks it up in the cache, opens it, and finds its relay.
 ///
-/// A frame that does not validate is neither added to the cache nor opened, and a duplicate is not opened. A work buffer of
+/// A frame that does not validate is neither added to the cache nor opened, and a duplicate is not opened; only what is told as new is to be
+/// passed on with [`set_hop_count`](crate::set_hop_count), which does not validate. A work buffer of
 /// [`PAYLOAD_MOST`](crate::PAYLOAD_MOST) bytes is long enough for any frame; where it is too short the frame is not added either, so that it
 /// can be received again.
 pub fn receive<'a>(frame: &'a [u8], keys: &Keys, cache: &mut Cache, work: &'a mut [u8]) -> Result<Received<'a>, ReceiveError> {

@@ -1,9 +1,34 @@
-//! The exported functions of `include/mesh.h`, as they stand there.
+//! The exported functions of `include/mesh.h`, and the codes that their numbers take, as they stand there.
 //!
 //! The prover does not know these declarations; `tools/faces` compares them, as text, with the header and with the library. Pointers are never
 //! null, also where a length is 0, and what is written overlaps nothing else that the same call is lent; slices and references of Rust keep
 //! both.
 #![allow(dead_code)]
+
+// enum mesh_kind: kinds of packets.
+pub(crate) const MESH_UPLINK: u8 = 0;
+pub(crate) const MESH_DOWNLINK: u8 = 1;
+pub(crate) const MESH_EVENT: u8 = 2;
+pub(crate) const MESH_COMMAND: u8 = 3;
+pub(crate) const MESH_LORA: u8 = 4;
+
+// enum mesh_body: what the body of an event or a command is.
+pub(crate) const MESH_EMPTY: u8 = 0;
+pub(crate) const MESH_SEALED: u8 = 1;
+pub(crate) const MESH_OPEN_IN_FRAME: u8 = 2;
+pub(crate) const MESH_OPEN_IN_WORK: u8 = 3;
+pub(crate) const MESH_ITEMS: u8 = 4;
+
+// enum mesh_found: what stands at a place of a payload.
+pub(crate) const MESH_END: u8 = 0;
+pub(crate) const MESH_KEPT: u8 = 1;
+pub(crate) const MESH_SKIPPED: u8 = 2;
+pub(crate) const MESH_CUT: u8 = 3;
+
+// enum mesh_item_kind: what an item is, read or composed; a path is composed alone.
+pub(crate) const MESH_ITEM_HEARTBEAT: u8 = 1;
+pub(crate) const MESH_ITEM_PROPRIETARY: u8 = 2;
+pub(crate) const MESH_ITEM_PATH: u8 = 3;
 
 extern "C" {
     // Reading.

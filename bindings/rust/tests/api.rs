@@ -243,6 +243,31 @@ fn composed_items() {
     assert_eq!(work[513], BEFORE);
 }
 
+/// What was read and is given back unchanged is written as the open payload itself is.
+#[test]
+fn given_back() {
+    // A heartbeat with ignored bits, others of tags 0 and not, one that an event skips, and a cut tail.
+    let payload = hex("0006 01020304 50c7 0102aabb 0005 0102030405 0000 ff0107 0309cc");
+    let kept = |items: Items| items.filter_map(|f| if let Found::Kept(k) = f { Some(k.to_item()) } else { None }).collect::<Vec<_>>();
+    let again = kept(Items::of_event(&payload).unwrap());
+    assert_eq!(again.len(), 4);
+    let open = event(Body::Open(&payload)).to_vec().unwrap();
+    assert_eq!(open[9..open.len() - 4], hex("0006 01020304 5007 0102aabb 0000 ff0107"));
+    assert_eq!(event(Body::Items(again)).to_vec().unwrap(), open);
+
+    let again: Result<Vec<Command>, Refusal> =
+        Items::of_command(&payload).unwrap().filter_map(|f| if let Found::Kept(k) = f { Some(k.to_command()) } else { None }).collect();
+    let again = again.unwrap();
+    assert_eq!(again.len(), 5);
+    let open = command(Body::Open(&payload)).to_vec().unwrap();
+    assert_eq!(open[9..open.len() - 4], payload[..payload.len() - 3]);
+    assert_eq!(command(Body::Items(again)).to_vec().unwrap(), open);
+
+    // A command has no heartbeats.
+    let Some(Found::Kept(beat)) = Items::of_event(&payload).unwrap().next() else { unreachable!() };
+    assert_eq!(beat.to_command(), Err(Refusal::TypeLarge));
+}
+
 #[test]
 fn open_already() {
     let mut work = [BEFORE; 100];
@@ -323,11 +348,17 @@ fn items_and_heartbeats() {
     assert_eq!(cut.next(), Some(Found::Cut(&[5])));
     assert_eq!(cut.next(), None);
     assert_eq!(cut.next(), None);
+    let tail = [1, 1, 0xaa, 2, 9, 0];
+    let found = [Found::Kept(Kept::Proprietary(1, &[0xaa])), Found::Cut(&[2, 9, 0])];
+    assert_eq!(Items::of_event(&tail).unwrap().collect::<Vec<_>>(), found);
+    assert_eq!(Items::of_command(&tail).unwrap().collect::<Vec<_>>(), found);
 
     let value: Vec<u8> = (0..258).map(|i| i as u8).collect();
     assert_eq!(Heartbeat::from_slice(&value), Err(Refusal::ItemLong));
     assert_eq!(Heartbeat::from_slice(&value[..256]), Err(Refusal::ItemLong));
     assert_eq!(Heartbeat::from_slice(&value[..255]), Err(Refusal::HeartbeatLength));
+    assert_eq!(Heartbeat::from_slice(&value[..7]), Err(Refusal::HeartbeatLength));
+    assert_eq!(Heartbeat::from_slice(&value[..6]).unwrap().entry(1), Err(Refusal::Outside));
     let beat = Heartbeat::from_slice(&value[..252]).unwrap();
     assert_eq!(beat.len(), 42);
     assert_eq!(beat.entry(42), Err(Refusal::Outside));
@@ -461,6 +492,8 @@ fn hop_edit() {
         assert_eq!(set_hop_count(&mut b, 0, &key).map_err(Refusal::number), Err(number));
         assert_eq!(b, bad);
     }
+    // The MIC that it came with is none of this key's, and is not looked at.
+    assert_eq!(MeshPacket::from_slice(&frame).unwrap().validate_mic(&key), Ok(false));
     for hop_count in 1..=8 {
         set_hop_count(&mut frame, hop_count, &key).unwrap();
         let p = MeshPacket::from_slice(&frame).unwrap();

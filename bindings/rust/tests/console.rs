@@ -59,4 +59,8 @@ fn frames() {
     let composed =
         [uplink(1, 291, 0x0d), uplink(2, 291, 0x0d), forged, event, command, hex("4011223344"), uplink(1, 291, 0x1d), hex("e000")];
     assert_eq!(console::FRAMES.map(hex), composed);
+    // The second is the first, passed on.
+    let mut passed_on = hex(console::FRAMES[0]);
+    set_hop_count(&mut passed_on, 2, &Keys::from_root(&root()).signing).unwrap();
+    assert_eq!(passed_on, hex(console::FRAMES[1]));
 }

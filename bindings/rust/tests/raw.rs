@@ -6,15 +6,9 @@ mod sys;
 // The archive comes with the crate.
 use lemikanto as _;
 
-const UPLINK: u8 = 0;
-const DOWNLINK: u8 = 1;
-const EVENT: u8 = 2;
-const COMMAND: u8 = 3;
-const LORA: u8 = 4;
-const SEALED: u8 = 1;
-const IN_FRAME: u8 = 2;
-const IN_WORK: u8 = 3;
-const ITEMS: u8 = 4;
+use sys::{MESH_COMMAND as COMMAND, MESH_DOWNLINK as DOWNLINK, MESH_EVENT as EVENT, MESH_LORA as LORA, MESH_UPLINK as UPLINK};
+use sys::{MESH_ITEMS as ITEMS, MESH_OPEN_IN_FRAME as IN_FRAME, MESH_OPEN_IN_WORK as IN_WORK, MESH_SEALED as SEALED};
+use sys::{MESH_ITEM_HEARTBEAT as HEARTBEAT, MESH_ITEM_PATH as PATH, MESH_ITEM_PROPRIETARY as PROPRIETARY};
 
 /// What stands in every output before a call.
 const BEFORE: u8 = 0xa5;
@@ -444,7 +438,7 @@ fn writing_over_shared_ranges() {
     // 0c 0d ..: a cut item.
     let p = P { body: IN_WORK, start: 2, len: 5, ..good(EVENT) };
     assert_eq!(write(&p, &l, 18).unwrap().len(), 13);
-    let kinds = [[0, 1], [0, 2]];
+    let kinds = [[PROPRIETARY, 1], [PROPRIETARY, 2]];
     let spans = [[0, 3], [1, 3]];
     let both = L { kinds: &kinds, spans: &spans, ..l };
     let p = P { body: ITEMS, len: 2, ..p };
@@ -471,62 +465,171 @@ fn composing() {
         assert_eq!(seal(&p, &KEY, &l, 8192).map(|(place, _)| place[2]), w.clone().map(|b| b.len() as u64 - 13));
         assert_eq!(sign(&p, &KEY, &l).map(|_| ()), w.clone().map(|_| ()));
         assert_eq!(validate(&p, &KEY, &l).map(|_| ()), w.clone().map(|_| ()));
-        // Any body over 4 is items too.
-        assert_eq!(write(&P { body: 255, start: u64::MAX, ..p }, &l, 8192), w);
+        assert_eq!(write(&P { start: u64::MAX, ..p }, &l, 8192), w);
         w.map(|b| b[9..b.len() - 4].to_vec())
     };
+    let any = [PROPRIETARY, 1];
     // Counts that the lists lack.
     for len in [1, 2, u64::MAX] {
         assert_eq!(at(&[], &[], len, EVENT), Err(45));
-        assert_eq!(at(&[[0, 1], [0, 1]], &[], len, EVENT), Err(45));
+        assert_eq!(at(&[any; 2], &[], len, EVENT), Err(45));
         assert_eq!(at(&[], &[[0, 1], [0, 1]], len, COMMAND), Err(45));
     }
-    assert_eq!(at(&[[0, 1]], &[[0, 1]], 0, EVENT), Ok(vec![]));
+    assert_eq!(at(&[any], &[[0, 1]], 0, EVENT), Ok(vec![]));
     // Values: place, length.
     for span in [[301, 1], [300, 1], [0, 301], [u32::MAX, 1], [1, u32::MAX], [u32::MAX, u32::MAX]] {
-        assert_eq!(at(&[[0, 1]], &[span], 1, EVENT), Err(45));
-        assert_eq!(at(&[[1, 1]], &[span], 1, EVENT), Err(45));
-        assert_eq!(at(&[[1, 1]], &[span], 1, COMMAND), Err(45));
+        for kind in [HEARTBEAT, PROPRIETARY, PATH] {
+            assert_eq!(at(&[[kind, 1]], &[span], 1, EVENT), Err(45));
+        }
+        assert_eq!(at(&[any], &[span], 1, COMMAND), Err(45));
     }
-    assert_eq!(at(&[[0, 1]], &[[0, 256]], 1, EVENT), Err(19));
-    assert_eq!(at(&[[0, 1]], &[[0, 256]], 1, COMMAND), Err(19));
-    assert_eq!(at(&[[0, 1]], &[[45, 255]], 1, EVENT).unwrap()[2..], value[45..300]);
-    assert_eq!(at(&[[0, 1]], &[[300, 0]], 1, COMMAND), Ok(vec![1, 0]));
-    // Tag 0 of an event is a heartbeat; of a command it is any.
-    assert_eq!(at(&[[0, 0]], &[[0, 5]], 1, EVENT), Err(20));
-    assert_eq!(at(&[[0, 0]], &[[0, 6]], 1, EVENT).unwrap().len(), 8);
-    assert_eq!(at(&[[0, 0]], &[[0, 5]], 1, COMMAND).unwrap().len(), 7);
+    assert_eq!(at(&[any], &[[0, 256]], 1, EVENT), Err(19));
+    assert_eq!(at(&[any], &[[0, 256]], 1, COMMAND), Err(19));
+    assert_eq!(at(&[any], &[[45, 255]], 1, EVENT).unwrap()[2..], value[45..300]);
+    assert_eq!(at(&[any], &[[300, 0]], 1, COMMAND), Ok(vec![1, 0]));
+    // Tag 0 of an event is a heartbeat; of a command it is any. A heartbeat's own tag is 0.
+    for beat in [[PROPRIETARY, 0], [HEARTBEAT, 0], [HEARTBEAT, 9]] {
+        assert_eq!(at(&[beat], &[[0, 5]], 1, EVENT), Err(20));
+        assert_eq!(at(&[beat], &[[0, 6]], 1, EVENT), Ok(vec![0, 6, 1, 8, 15, 22, 29, 36]));
+        assert_eq!(at(&[beat], &[[0, 256]], 1, EVENT), Err(19));
+    }
+    assert_eq!(at(&[[PROPRIETARY, 0]], &[[0, 5]], 1, COMMAND).unwrap().len(), 7);
     // Paths.
-    assert_eq!(at(&[[1, 9]], &[[0, 43]], 1, EVENT), Err(19));
-    assert_eq!(at(&[[1, 9]], &[[9, 42]], 1, EVENT), Err(45));
-    assert_eq!(at(&[[1, 9]], &[[8, 42]], 1, EVENT).unwrap().len(), 254);
-    assert_eq!(at(&[[255, 9]], &[[50, 0]], 1, EVENT), Ok(vec![0, 0]));
+    assert_eq!(at(&[[PATH, 9]], &[[0, 43]], 1, EVENT), Err(19));
+    assert_eq!(at(&[[PATH, 9]], &[[9, 42]], 1, EVENT), Err(45));
+    assert_eq!(at(&[[PATH, 9]], &[[8, 42]], 1, EVENT).unwrap().len(), 254);
+    assert_eq!(at(&[[PATH, 9]], &[[50, 0]], 1, EVENT), Ok(vec![0, 0]));
     // 45 of any item precedes 19 of the first.
-    assert_eq!(at(&[[0, 1], [0, 1]], &[[0, 256], [301, 1]], 2, EVENT), Err(45));
-    assert_eq!(at(&[[0, 0], [0, 1]], &[[0, 5], [0, 256]], 2, EVENT), Err(19));
+    assert_eq!(at(&[any, any], &[[0, 256], [301, 1]], 2, EVENT), Err(45));
+    assert_eq!(at(&[[PROPRIETARY, 0], any], &[[0, 5], [0, 256]], 2, EVENT), Err(19));
 
     // A path's lists of unequal length reach as far as the shortest; its entries are judged before lengths.
     let p = P { body: ITEMS, len: 1, ..good(EVENT) };
     for (ids, rssis, snrs) in [(&ids[..1], &rssis[..], &snrs[..]), (&ids, &rssis[..1], &snrs), (&ids, &rssis, &snrs[..1])] {
-        let l = L { kinds: &[[1, 0]], spans: &[[0, 2]], ids, rssis, snrs, ..L::default() };
+        let l = L { kinds: &[[PATH, 0]], spans: &[[0, 2]], ids, rssis, snrs, ..L::default() };
         assert_eq!(write(&p, &l, 99), Err(45));
         assert_eq!(write(&p, &L { spans: &[[0, 1]], ..l }, 99).unwrap().len(), 21);
     }
     for (number, rssi, snr) in [(10, 1, 40), (11, -256, 40), (12, 0, -33), (13, 0, 32)] {
         let (rssis, snrs) = ([rssi; 50], [snr; 50]);
-        let l = L { kinds: &[[1, 0]], spans: &[[0, 43]], ids: &ids, rssis: &rssis, snrs: &snrs, ..L::default() };
+        let l = L { kinds: &[[PATH, 0]], spans: &[[0, 43]], ids: &ids, rssis: &rssis, snrs: &snrs, ..L::default() };
         assert_eq!(write(&p, &l, 0), Err(number));
         assert_eq!(seal(&p, &KEY, &l, 0), Err(number));
     }
 
     // 31 items of 257 bytes and one of 212 are 8,179.
-    let kinds = [[0, 1]; 32];
+    let kinds = [any; 32];
     let mut spans = [[0, 255]; 32];
     spans[31] = [0, 210];
     assert_eq!(at(&kinds, &spans, 32, EVENT).unwrap().len(), 8179);
     spans[31] = [0, 211];
     assert_eq!(at(&kinds, &spans, 32, EVENT), Err(5));
     assert_eq!(at(&kinds, &spans, 32, COMMAND), Err(5));
+}
+
+/// Every call that takes composed items refuses a kind that is none with 29, before all else: before 6 and 7, 27, 45 and 21.
+#[test]
+fn kinds_that_are_none() {
+    let value = frame(1, 300);
+    let refused = |kind: u8, kinds: &[[u8; 2]], spans: &[[u32; 2]]| {
+        let l = L { work: &value, kinds, spans, ..L::default() };
+        for hop_count in [0, 1, 9] {
+            for has_mic in [false, true] {
+                let p = P { body: ITEMS, len: kinds.len() as u64, hop_count, has_mic, ..good(kind) };
+                assert_eq!(write(&p, &l, 0), Err(29));
+                assert_eq!(write_body(&p, &l, 0), Err(29));
+                assert_eq!(sign(&p, &KEY, &l), Err(29));
+                assert_eq!(validate(&p, &KEY, &l), Err(29));
+                assert_eq!(seal(&p, &KEY, &l, 0), Err(29));
+            }
+        }
+    };
+    let any = [PROPRIETARY, 1];
+    for none in [0, 4, 5, 127, 255] {
+        for kind in [EVENT, COMMAND] {
+            refused(kind, &[[none, 1]], &[[0, 1]]);
+            refused(kind, &[[none, 0]], &[[301, 1]]);
+            refused(kind, &[any, [none, 1]], &[[301, 1], [0, 256]]);
+        }
+    }
+    for none in [HEARTBEAT, PATH] {
+        refused(COMMAND, &[[none, 1]], &[[0, 0]]);
+        refused(COMMAND, &[any, any, [none, 0]], &[[0, 256], [301, 1], [0, 6]]);
+    }
+    // Items that the body does not count are not looked at.
+    let l = L { work: &value, kinds: &[any, [0, 0]], spans: &[[0, 1], [0, 1]], ..L::default() };
+    for kind in [EVENT, COMMAND] {
+        assert_eq!(write(&P { body: ITEMS, len: 1, ..good(kind) }, &l, 99).unwrap()[9..12], [1, 1, 1]);
+        assert_eq!(write(&P { len: 1, ..good(kind) }, &l, 99).unwrap().len(), 13);
+    }
+}
+
+/// So it is with a body that is none; of uplinks, downlinks and LoRa frames it is not looked at.
+#[test]
+fn bodies_that_are_none() {
+    let three = [1, 2, 3];
+    let l = framed(&three);
+    for body in [5, 6, 127, 255] {
+        for kind in [EVENT, COMMAND] {
+            for (start, len) in [(0, 0), (0, 3), (9, 9)] {
+                for hop_count in [0, 1, 9] {
+                    for has_mic in [false, true] {
+                        let p = P { body, start, len, hop_count, has_mic, ..good(kind) };
+                        assert_eq!(write(&p, &l, 0), Err(29));
+                        assert_eq!(write_body(&p, &l, 0), Err(29));
+                        assert_eq!(sign(&p, &KEY, &l), Err(29));
+                        assert_eq!(validate(&p, &KEY, &l), Err(29));
+                        assert_eq!(seal(&p, &KEY, &l, 0), Err(29));
+                        assert_eq!(decrypt(&p, &KEY, &three, 0), Err(29));
+                        assert_eq!(decode(&p, &three, &[]), Err(29));
+                    }
+                }
+            }
+        }
+        for kind in [UPLINK, DOWNLINK, LORA] {
+            let p = P { len: 3, ..good(kind) };
+            assert_eq!(write(&P { body, ..p }, &l, 99), write(&p, &l, 99));
+            assert!(write(&p, &l, 99).is_ok());
+        }
+        for kind in [UPLINK, DOWNLINK] {
+            let p = P { len: 3, ..good(kind) };
+            assert_eq!(sign(&P { body, ..p }, &KEY, &l), sign(&p, &KEY, &l));
+            assert!(seal(&P { body, ..p }, &KEY, &l, 0).is_ok());
+        }
+    }
+}
+
+/// The items that reading lists, lent back as they were read, are written, sealed and signed as the open payload itself is.
+#[test]
+fn lent_back() {
+    // A heartbeat with ignored bits, others of tags 0 and not, one that an event skips, and a cut tail.
+    let payload = [0, 6, 1, 2, 3, 4, 80, 0xc7, 1, 2, 0xaa, 0xbb, 0, 5, 1, 2, 3, 4, 5, 0, 0, 255, 1, 7, 3, 9, 0xcc];
+    for kind in [EVENT, COMMAND] {
+        let (mut kinds, mut spans, mut at) = (vec![], vec![], 0);
+        loop {
+            let [found, kind, tag, start, len, next] = item(kind == EVENT, &payload, at).unwrap();
+            match found as u8 {
+                sys::MESH_END => break,
+                sys::MESH_KEPT => {
+                    kinds.push([kind as u8, tag as u8]);
+                    spans.push([start as u32, len as u32]);
+                }
+                _ => (),
+            }
+            assert!(next > at);
+            at = next;
+        }
+        assert_eq!(kinds.len(), if kind == EVENT { 4 } else { 5 });
+        let l = L { work: &payload, kinds: &kinds, spans: &spans, ..L::default() };
+        let again = P { body: ITEMS, len: kinds.len() as u64, ..good(kind) };
+        let open = P { body: IN_WORK, len: payload.len() as u64, ..good(kind) };
+        let written = write(&open, &l, 99).unwrap();
+        assert_eq!(written[16], if kind == EVENT { 0x07 } else { 0xc7 });
+        assert_eq!(write(&again, &l, 99).unwrap(), written);
+        assert_eq!(write_body(&again, &l, 99), write_body(&open, &l, 99));
+        assert_eq!(seal(&again, &KEY, &l, 99), seal(&open, &KEY, &l, 99));
+        assert_eq!(sign(&again, &KEY, &l), sign(&open, &KEY, &l));
+    }
 }
 
 // ---- signing, sealing, opening
@@ -667,9 +770,9 @@ fn items() {
     assert_eq!(count(true, &long), Err(5));
     assert_eq!(count(false, &long[..8179]), Ok([2726, 0, 8178, 0, 1, 0]));
     assert_eq!(item(true, &long[..8179], 0), Ok([1, 2, 1, 2, 1, 3]));
-    assert_eq!(item(true, &long[..8179], 8178), Ok([3, 0, 0, 8178, 1, 0]));
+    assert_eq!(item(true, &long[..8179], 8178), Ok([3, 0, 0, 8178, 1, 8179]));
     for at in [8179, 8180, u64::MAX, u64::MAX - 1, 1 << 63] {
-        assert_eq!(item(true, &long[..8179], at), Ok([0; 6]));
+        assert_eq!(item(true, &long[..8179], at), Ok([0, 0, 0, 0, 0, 8179]));
         assert_eq!(item(false, &[], at), Ok([0; 6]));
     }
     assert_eq!(count(true, &[]), Ok([0, 0, 0, 0, 0, 1]));
@@ -677,8 +780,13 @@ fn items() {
     assert_eq!(item(true, &[0, 5, 1, 2, 3, 4, 5], 0), Ok([2, 1, 0, 2, 5, 7]));
     assert_eq!(item(false, &[0, 5, 1, 2, 3, 4, 5], 0), Ok([1, 2, 0, 2, 5, 7]));
     for end in 1..=7 {
-        assert_eq!(item(true, &[0, 6, 1, 2, 3, 4, 5, 6][..end], 0), Ok([3, 0, 0, 0, end as u64, 0]));
+        assert_eq!(item(true, &[0, 6, 1, 2, 3, 4, 5, 6][..end], 0), Ok([3, 0, 0, 0, end as u64, end as u64]));
     }
+    // The place behind a cut tail and behind the end is the payload's length, so that a walk by it ends.
+    let cut = [1, 1, 0xaa, 2, 9, 0];
+    assert_eq!(item(true, &cut, 0), Ok([1, 2, 1, 2, 1, 3]));
+    assert_eq!(item(true, &cut, 3), Ok([3, 0, 0, 3, 3, 6]));
+    assert_eq!(item(true, &cut, 6), Ok([0, 0, 0, 0, 0, 6]));
 }
 
 #[test]
@@ -701,7 +809,7 @@ fn key_stream() {
 
 #[test]
 fn heartbeats() {
-    let value = frame(1, 260);
+    let value = frame(1, 300);
     let entries = |len: usize, places: u64| {
         let mut n = 77;
         match unsafe { sys::mesh_heartbeat(value.as_ptr(), len, places, &mut n) } {
@@ -738,7 +846,17 @@ fn heartbeats() {
         assert_eq!(entry(0, i), Err(45));
     }
     assert_eq!(entry(0, 0), Err(45));
-    assert_eq!(entry(5, 0), Err(45));
+    // What `mesh_heartbeat` refuses has no entries.
+    for i in [0, 1, 49, u64::MAX] {
+        assert_eq!(entry(5, i), Err(20));
+        assert_eq!(entry(7, i), Err(20));
+        assert_eq!(entry(255, i), Err(20));
+        assert_eq!(entry(256, i), Err(19));
+        assert_eq!(entry(258, i), Err(19));
+        assert_eq!(entry(300, i), Err(19));
+    }
+    assert_eq!(entry(6, 1), Err(45));
+    assert_eq!(entry(252, 42), Err(45));
     for i in 0..42 {
         let b: [u8; 6] = value[6 * i..6 * i + 6].try_into().unwrap();
         let (mut id, mut rssi, mut snr) = (0, 0, 0);

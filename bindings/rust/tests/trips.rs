@@ -145,15 +145,12 @@ fn packets() {
         assert!(opening.clean);
         match (&read.payload, &clear.payload) {
             (Payload::Event(p), Payload::Event(q)) => {
-                let found: Vec<Item> = p.items().expect("items").map(kept).collect();
+                let found: Vec<Item> = p.items().expect("items").map(|f| kept(f).to_item()).collect();
                 assert_eq!(Body::Items(found), q.events);
                 assert_eq!(p.to_vec(), q.to_vec());
             }
             (Payload::Command(p), Payload::Command(q)) => {
-                let found = p.items().expect("items").map(|f| match kept(f) {
-                    Item::Proprietary(tag, value) => Command::Proprietary(tag, value),
-                    Item::Heartbeat(_) => panic!("a command has no heartbeats"),
-                });
+                let found = p.items().expect("items").map(|f| kept(f).to_command().expect("a command has no heartbeats"));
                 assert_eq!(Body::Items(found.collect()), q.commands);
                 assert_eq!(p.to_vec(), q.to_vec());
             }
@@ -170,9 +167,9 @@ fn packets() {
     }
 }
 
-fn kept(found: Found) -> Item {
+fn kept(found: Found) -> Kept {
     match found {
-        Found::Kept(k) => k.to_item(),
+        Found::Kept(k) => k,
         other => panic!("{other:?}"),
     }
 }
@@ -232,6 +229,19 @@ fn any_bytes() {
                     assert_eq!(cut, opening.cut_bytes);
                     let written = p.to_vec().expect("written");
                     assert_eq!(written.len(), 13 + opening.kept_bytes);
+                    // What was read, given back, is written as the open payload is.
+                    let is_kept = |f: &Found| matches!(f, Found::Kept(_));
+                    match &mut p.payload {
+                        Payload::Event(e) => {
+                            e.events = Body::Items(e.items().expect("items").filter(is_kept).map(|f| kept(f).to_item()).collect());
+                        }
+                        Payload::Command(c) => {
+                            let again = c.items().expect("items").filter(is_kept).map(|f| kept(f).to_command());
+                            c.commands = Body::Items(again.collect::<Result<_, _>>().expect("no heartbeats"));
+                        }
+                        _ => unreachable!(),
+                    }
+                    assert_eq!(p.to_vec(), Ok(written));
                 }
             }
             Err(r) => assert_eq!(text, format!("refused {}", r.number())),
