@@ -99,13 +99,13 @@ impl Cache {
         let mut i = 0;
         while i < n {
             let s = self.slots[i];
+            i += 1;
             if s.same(r) {
                 return Added {
                     answer: CacheAnswer::Seen,
                     cache: self,
                 };
             }
-            i += 1;
         }
         let at = self.next % size;
         let mut slots = self.slots;

@@ -6,14 +6,12 @@ use mathlib.Core.Bool.{Bool, true, false}
 use mathlib.Core.Path.{_≡_, refl, sym, ap, ap₂, _∙_}
 use mathlib.Core.List.{List, [], _∷_, _++_, append-nil}
 use lib.ListN.{length, getD, take, set, length-set, drop-of-length-le}
-use lib.Seq.{length-take-le}
 use borrow.Author.Tests.{le-ltb, lt-ltb}
 use Rattle.base.specs.Pick.{pick}
 use Rattle.base.specs.Lists.{Bytes}
-use Rattle.base.proofs.Bytes.{take-lt}
 use Rattle.base.specs.Answers.{Frame, bytes, refused}
-use Rattle.wire.specs.Number.{beOf, beBytes}
-use Rattle.wire.proofs.Laws.Number.{be-length, bytes-of}
+use Rattle.wire.specs.Number.{beBytes}
+use Rattle.wire.proofs.Laws.Number.{be-length}
 use Rattle.wire.proofs.Laws.Lay.{put-fits}
 use Rattle.fields.specs.Header.{headerByte}
 use Rattle.fields.specs.declared.header.MHDR.{MHDR}
@@ -39,12 +37,6 @@ use Rattle.hops.specs.Steps.{isUplink, renewed, micLaid, rewritten}
 -- a message, and the MIC over it
 abbrev pub sealedWith : (List ℕ → List ℕ) → ℕ → List ℕ → List ℕ
 sealedWith E b c = (b ∷ c) ++ beBytes 4 (micOf E (b ∷ c))
-
--- four bytes are those of their number
-pub first-four : (t : List ℕ) → length t ≡ 16 → Bytes t → take 4 t ≡ beBytes 4 (beOf (take 4 t))
-first-four t n h =
-    let l : length (take 4 t) ≡ 4 = length-take-le 4 t (omega arith) in
-    sym (ap (λ (k : ℕ). beBytes k (beOf (take 4 t))) (sym l) ∙ bytes-of (take 4 t) (take-lt 4 t h))
 
 -- an element made anew from itself, in a front
 take-anew : (n : ℕ) (s : List ℕ) (i : ℕ) (f : ℕ → ℕ) → take n (set s i (f (getD s i 0))) ≡ set (take n s) i (f (getD (take n s) i 0))
@@ -136,23 +128,25 @@ module _ (s : List ℕ) (p : MeshPacket) (small : Bytes s) (read : meshOf s ≡ 
         ∙ ap (withMic true m) (message-is h true m e)
         ∙ simp (le-ltb 8188 (length (b ∷ C)) C-fits)
 
-    -- what is rewritten in the buffer is that
-    in-place : (E : List ℕ → List ℕ) → rewritten E b (isUplink (p .mhdr .«payload_type»)) s ≡ sealedWith E b C
+    -- what is rewritten in the buffer is that, where the MIC stands in the last four bytes
+    in-place : (E : List ℕ → List ℕ) (end : ℕ) → end ≡ length s - 4
+        → rewritten E b (isUplink (p .mhdr .«payload_type»)) end s ≡ sealedWith E b C
     unfolding rewritten
-    in-place E =
+    in-place E end at =
         let l = was-read s p read .least in
         let t = p .mhdr .«payload_type» in
-        let n : 0 < length s - 4 = omega arith in
+        let n : 0 < end = omega arith in
         let X = renewed b (isUplink t) s in
         let k = renewed-length b (isUplink t) s in
-        let e : length X ≡ length s - 4 + 4 = omega arith in
-        simp (lt-ltb 0 (length s - 4) n)
-        (laid-is E (length s - 4) X (b ∷ C) e
-        (front s b (isUplink t) l ∙ ap (λ (v : List ℕ). b ∷ v) (cleared-by t)))
+        let e : length X ≡ end + 4 = omega arith in
+        simp (lt-ltb 0 end n)
+        (laid-is E end X (b ∷ C) e
+        (ap (λ (i : ℕ). take i X) at ∙ front s b (isUplink t) l ∙ ap (λ (v : List ℕ). b ∷ v) (cleared-by t)))
 
-    pub rewritten-is : (E : List ℕ → List ℕ) (n : ℕ) → headerByte (carryingCount p n .mhdr) ≡ Byte b → (up : Bool) (x : List ℕ) → up ≡ isUplink (p .mhdr .«payload_type») → x ≡ rewritten E b up s
-        → x ≡ leaves (hopEdit E s n) s
-    rewritten-is E n e up x f g = g ∙ ap (λ (u : Bool). rewritten E b u s) f ∙ in-place E ∙ sym (ap (λ (y : Frame). leaves y s) (edit-is E n e))
+    pub rewritten-is : (E : List ℕ → List ℕ) (n : ℕ) → headerByte (carryingCount p n .mhdr) ≡ Byte b → (up : Bool) (x : List ℕ) (end : ℕ) → up ≡ isUplink (p .mhdr .«payload_type»)
+        → x ≡ rewritten E b up end s → end ≡ length s - 4 → x ≡ leaves (hopEdit E s n) s
+    rewritten-is E n e up x end f g at =
+        g ∙ ap (λ (u : Bool). rewritten E b u end s) f ∙ in-place E end at ∙ sym (ap (λ (y : Frame). leaves y s) (edit-is E n e))
 
 -- the reader's refusal is the edit's
 pub edit-unread : (E : List ℕ → List ℕ) (s : List ℕ) (k n : ℕ) → meshOf s ≡ Refused k → hopEdit E s n ≡ refused k

@@ -19,6 +19,10 @@ isUplink Downlink = false
 isUplink Event = false
 isUplink Command = false
 
+-- where the MIC begins
+abbrev pub micAt : List ℕ → ℕ
+micAt s = length s - 4
+
 -- header byte b, and an uplink's two ignored bits as 0
 unfoldable pub renewed : ℕ → Bool → List ℕ → List ℕ
 renewed b up s = pick up (lowSix (set s 0 b) 4) (set s 0 b)
@@ -27,6 +31,6 @@ renewed b up s = pick up (lowSix (set s 0 b) 4) (set s 0 b)
 unfoldable pub micLaid : (List ℕ → List ℕ) → ℕ → List ℕ → List ℕ
 micLaid E end s = put s end (beBytes 4 (micOf E (take end s)))
 
--- both, in a frame with a header byte before its MIC
-unfoldable pub rewritten : (List ℕ → List ℕ) → ℕ → Bool → List ℕ → List ℕ
-rewritten E b up s = pick (ltb 0 (length s - 4)) (micLaid E (length s - 4) (renewed b up s)) s
+-- both, where the MIC stands at a place behind a header byte
+unfoldable pub rewritten : (List ℕ → List ℕ) → ℕ → Bool → ℕ → List ℕ → List ℕ
+rewritten E b up end s = pick (ltb 0 end) (micLaid E end (renewed b up s)) s

@@ -1,11 +1,12 @@
 // The hop edit, in the received buffer: header byte, an uplink's two ignored bits and the MIC are rewritten where they stand.
 ghost use mathlib.Core.Path.{_≡_};
-ghost use Prim.Native.Nat.{_-_, _≤_};
-ghost use lib.ListN.{length};
+ghost use Prim.Native.Nat.{_≤_};
+ghost use lib.ListN.{length, take};
 ghost use Rattle.base.specs.Answers.{checkedOf};
 ghost use Rattle.fips197.specs.Aes.{aes};
+ghost use Rattle.mic.specs.Mic.{micOf};
 ghost use Rattle.hops.specs.Hops.{hopEdit, leaves, recounted};
-ghost use Rattle.hops.specs.Steps.{isUplink, renewed, micLaid, rewritten};
+ghost use Rattle.hops.specs.Steps.{isUplink, micAt, renewed, micLaid, rewritten};
 use aes128::Aes128Key;
 use base::Checked;
 use cmac::cmac;
@@ -14,6 +15,8 @@ use fields::MHDR;
 use fields::PayloadType;
 use packets::MeshPacket;
 use packets::MeshRead;
+use wire::be32_bytes;
+use wire::be32_of;
 use wire::put_all;
 
 fn is_uplink(t: PayloadType) -> bool
@@ -40,7 +43,7 @@ fn recounted(h: MHDR, hop_count: u8) -> MHDR
 
 // Where the MIC begins.
 fn mic_at(frame: &[u8]) -> usize
-    ensures { λ r. ⌜ r ≡ length (now (frame .entry)) - 4 ⌝ }
+    ensures { λ r. ⌜ r ≡ micAt (now (frame .entry)) ⌝ }
 {
     if frame.len() < 4 {
         return 0;
@@ -59,18 +62,26 @@ fn renew(frame: &mut [u8], first: u8, up: bool)
     }
 }
 
-// The MIC over all that stands before it.
+// The MIC over all that stands before a place.
+fn mic_of(frame: &[u8], end: usize, key: Aes128Key) -> u32
+    requires { ⌜ end ≤ length (now frame) ⌝ }
+    ensures { λ r. ⌜ r ≡ micOf (aes (key .0)) (take end (now (frame .entry))) ⌝ }
+{
+    let tag = cmac(key, &frame[..end]);
+    be32_of(tag[0], tag[1], tag[2], tag[3])
+}
+
 fn lay_mic(frame: &mut [u8], end: usize, key: Aes128Key)
     requires { ⌜ end ≤ length (now frame) ⌝ }
     ensures { λ _. ⌜ now (frame .exit) ≡ micLaid (aes (key .0)) end (now (frame .entry)) ⌝ }
 {
-    let tag = cmac(key, &frame[..end]);
-    put_all(&tag[..4], frame, end);
+    let mic = be32_bytes(mic_of(frame, end, key));
+    put_all(&mic, frame, end);
 }
 
 // All that changes, in a frame with a header byte before its MIC. It is signed last, as it stands from now on.
 fn rewrite(frame: &mut [u8], first: u8, up: bool, key: Aes128Key)
-    ensures { λ _. ⌜ now (frame .exit) ≡ rewritten (aes (key .0)) first up (now (frame .entry)) ⌝ }
+    ensures { λ _. ⌜ now (frame .exit) ≡ rewritten (aes (key .0)) first up (micAt (now (frame .entry))) (now (frame .entry)) ⌝ }
 {
     let end = mic_at(frame);
     if 0 < end {

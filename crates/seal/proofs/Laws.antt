@@ -22,7 +22,7 @@ use Rattle.fips197.specs.Aes.{aes}
 use Rattle.fips197.proofs.Bytes.{aes-block}
 use Rattle.cipher.specs.Words.{prepared, enciphered}
 use Rattle.cipher.proofs.Laws.{prepared-agrees}
-use Rattle.seal.specs.Stream.{numbered, blockNumber, streamBlock, streamByte, streamed, sealedOf}
+use Rattle.seal.specs.Stream.{numberBytes, numbered, blockNumber, streamBlock, streamByte, streamed, sealedOf}
 
 -- the block number is one byte
 pub number-lt : (i : ℕ) → blockNumber i < 256
@@ -104,7 +104,9 @@ numbered-block command relay time n h =
     let o : 1 < 256 = lit< tt in
     let r = be-small 4 relay in
     let t = be-small 4 time in
-    let a = o ▸ z ▸ z ▸ z ▸ z ▸ kind-lt command ▸ r 0 ▸ r 1 ▸ r 2 ▸ r 3 ▸ t 0 ▸ t 1 ▸ t 2 ▸ t 3 ▸ z ▸ h ▸ none in
+    let c : getD (numberBytes n) 0 0 < 256 = omega arith in
+    let d : getD (numberBytes n) 1 0 < 256 = omega arith in
+    let a = o ▸ z ▸ z ▸ z ▸ z ▸ kind-lt command ▸ r 0 ▸ r 1 ▸ r 2 ▸ r 3 ▸ t 0 ▸ t 1 ▸ t 2 ▸ t 3 ▸ c ▸ d ▸ none in
     record { long = refl; small = a .bytes-of }
 
 -- under a key of 16 bytes

@@ -1,5 +1,6 @@
 -- `hops::set_hop_count` meets its contract. Assumes nothing.
 use mathlib.Core.Path.{sym, ap, _∙_}
+use native.Mathlib.Omega.{arith}
 use denote.Ref.{now}
 use Rattle.base.specs.Lists.{Bytes}
 use Rattle.base.specs.Answers.{Frame, checkedOf}
@@ -38,7 +39,8 @@ returns-3 c =
     let r = sym (c .before .before .before .before .before .before .before .before .before .before .before .before .before .before .from-slice .ensures) ∙ c .before .before .before .before .before .before .before .before .before .before .before .before .p .given .1 in
     let h = sym (c .before .before .before .before .before .before .before .before .to-byte .ensures ∙ ap headerByte (c .before .before .before .before .before .before .before .before .before .recounted .ensures)) ∙ c .before .before .before .before .before .before .first .given .1 in
     let e = edit-is s p small r b E (a .hop-count) h in
-    (sym (ap checkedOf e), rewritten-is s p small r b E (a .hop-count) h _ _ (c .before .before .before .is-uplink .ensures) (c .before .before .rewrite .ensures))
+    let anew = rewritten-is s p small r b E (a .hop-count) h _ _ _ (c .before .before .before .is-uplink .ensures) (c .before .before .rewrite .ensures) in
+    (sym (ap checkedOf e), anew (omega arith))
 
 pub set-hop-count-spec : {M : Type 1} → statement M
 set-hop-count-spec = tie.close (tie.spec (λ c κs. search needs) (λ c. search needs) (λ c. search needs) (λ c κs. search needs) (λ c κs. search needs) (λ c. search needs) (λ c. search needs) (λ c κs. search needs) (λ c κs. search needs) (λ c. search needs) returns (λ c. search needs) returns-2 (λ c. search needs) returns-3)

@@ -32,8 +32,8 @@ loop-again c = let b = c .before .before .before in
     let same : length (a .loop .buf) ≡ length o = a .loop .inv .laying .same in
     let more : a .loop .at < length o = search needs in
     let end : e ≡ a .loop .at + min 16 (length o - a .loop .at) = omega arith in
-    adding-more _ _ o (k .key-block .result) (b .add-block .last .1 .0) (a .loop .buf) (a .loop .n) (c .wrapping-add-u8 .result) (a .loop .at) e
-    more end (search needs) (k .key-block .ensures) (b .add-block .ensures) (c .wrapping-add-u8 .ensures) (a .loop .inv)
+    adding-more _ _ o (k .key-block .result) (b .add-block .last .1 .0) (a .loop .buf) (a .loop .n) (c .next-number .result) (a .loop .at) e
+    more end (search needs) (k .key-block .ensures) (b .add-block .ensures) (c .next-number .ensures) (a .loop .inv)
 
 same-length : tie.Need-same-length Inv-loop μ-loop
 same-length c = c .before .loop .inv .laying .same

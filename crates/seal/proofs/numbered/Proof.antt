@@ -7,7 +7,7 @@ use Rattle.seal.proofs.numbered.Tie as tie
 
 returns : tie.Need-returns
 unfolding numbered beBytes
-returns c = rw (c .before .before .kind-byte .ensures, c .before .be32-bytes .ensures, c .be32-bytes2 .ensures)
+returns c = rw (c .before .before .before .kind-byte .ensures, c .before .before .be32-bytes .ensures, c .before .be32-bytes2 .ensures, c .number-bytes .ensures)
 
 pub numbered-spec : {M : Type 1} → statement M
-numbered-spec = tie.close (tie.spec (λ c κs. search needs) (λ c κs. search needs) (λ c κs. search needs) (λ c. search needs) (λ c. search needs) (λ c. search needs) (λ c. search needs) (λ c. search needs) (λ c. search needs) (λ c. search needs) (λ c. search needs) returns)
+numbered-spec = tie.close (tie.spec (λ c κs. search needs) (λ c κs. search needs) (λ c κs. search needs) (λ c κs. search needs) (λ c. search needs) (λ c. search needs) (λ c. search needs) (λ c. search needs) (λ c. search needs) (λ c. search needs) (λ c. search needs) (λ c. search needs) (λ c. search needs) (λ c. search needs) returns)

@@ -36,17 +36,17 @@ element-copy-out-s c =
     let h : c .before .loop .i < c .before .before .least .result = c .«loop-test» .taken in
     omega arith
 
+add-i : tie.Need-add-i Inv-loop μ-loop
+add-i c =
+    let most : c .before .before .before .least .result ≤ 64 = count-small _ _ _ (c .before .before .before .least .ensures) (c .before .before .before .before .if2 .left) in
+    let h : c .before .before .loop .i < c .before .before .before .least .result = c .before .«loop-test» .taken in
+    record { fits = omega arith }
+
 returns-3 : tie.Need-returns-3 Inv-loop μ-loop
 returns-3 c =
     let long : length (c .before .before .before .before .before .before .before .before .args .t1 .slots) ≡ 64 = slots-long (c .before .before .before .before .before .before .before .before .args .t1) _ (c .before .before .before .before .before .before .before .before .good .0) in
     let most : c .before .before .before .before .before .least .result ≤ 64 = count-small _ _ _ (c .before .before .before .before .before .least .ensures) (c .before .before .before .before .before .before .if2 .left) in
     added-seen _ _ (c .before .before .before .before .before .before .before .if1 .left) (c .before .before .before .before .before .before .if2 .left) (ap (λ (n : ℕ). has (take n (c .before .before .before .before .before .before .before .before .args .t1 .slots)) (c .before .before .before .before .before .before .before .before .args .r)) (sym (c .before .before .before .before .before .least .ensures)) ∙ has-there _ (c .before .before .before .before .loop .i) _ _ _ (c .before .before .before .«loop-test» .taken) (omega (arith, long)) (sym (c .before .same .ensures) ∙ c .if3 .taken))
-
-add-i : tie.Need-add-i Inv-loop μ-loop
-add-i c =
-    let most : c .before .before .before .before .before .least .result ≤ 64 = count-small _ _ _ (c .before .before .before .before .before .least .ensures) (c .before .before .before .before .before .before .if2 .left) in
-    let h : c .before .before .before .before .loop .i < c .before .before .before .before .before .least .result = c .before .before .before .«loop-test» .taken in
-    record { fits = omega arith }
 
 loop-less : tie.Need-loop-less Inv-loop μ-loop
 loop-less c = search needs
@@ -89,5 +89,5 @@ returns-4 c =
 pub added-spec : {M : Type 1} → statement M
 added-spec =
     tie.close
-    (tie.spec Inv-loop μ-loop (λ c κs. search needs) returns (λ c κs. search needs) returns-2 (λ c κs. search needs) loop-holds mul-s element-copy-out-s (λ c κs. search needs) returns-3 add-i
+    (tie.spec Inv-loop μ-loop (λ c κs. search needs) returns (λ c κs. search needs) returns-2 (λ c κs. search needs) loop-holds mul-s element-copy-out-s add-i (λ c κs. search needs) returns-3
     loop-less loop-again rem-at mul-slots array-set-from-slots add-least (λ c κs. search needs) add-next rem-next returns-4)
