@@ -5,12 +5,12 @@ use native.Mathlib.Omega.{arith}
 use mathlib.Core.Bool.{Bool, true, false}
 use mathlib.Core.Path.{_≡_, refl, sym, ap, _∙_}
 use mathlib.Core.List.{List, [], _∷_}
-use lib.Dec.{ltb}
+use lib.Dec.{ltb, eqb}
 use lib.ListN.{length, getD}
 use borrow.Author.Tests.{le-ltb, ltb-true, ltb-false}
 use Rattle.base.specs.Pick.{pick}
-use Rattle.base.specs.Numbers.{itemLong, outside, itemMost, pathMost}
-use Rattle.base.specs.Lists.{from, imap, firstOf, joined}
+use Rattle.base.specs.Numbers.{typeLarge, itemLong, outside, itemMost, pathMost}
+use Rattle.base.specs.Lists.{from, imap, orElse, firstOf, joined}
 use Rattle.base.proofs.Lists.{from-length, from-get, imap-length, or-zero}
 use Rattle.base.proofs.First.{passed}
 use Rattle.wire.specs.Part.{partOf}
@@ -37,6 +37,31 @@ unfolding kindsRefusal firstOf
 no-kinds ev n =
     let e : min n (itemCount (lists [] [] [] [] [] [])) ≡ 0 = omega arith in
     ap (λ (m : ℕ). firstOf (badKind ev) (from m 0 (itemIn (lists [] [] [] [] [] [])))) e
+
+-- what the kinds refuse with is 29
+bad-by : (a e b c : Bool) → (_≡_ {A = ℕ} (pick a 0 (pick e (pick b 0 (pick c 0 29)) 29)) 0 → ⊥) → _≡_ {A = ℕ} (pick a 0 (pick e (pick b 0 (pick c 0 29)) 29)) 29
+bad-by true e b c h = absurd (h refl)
+bad-by false false b c h = refl
+bad-by false true true c h = absurd (h refl)
+bad-by false true false true h = absurd (h refl)
+bad-by false true false false h = refl
+
+bad-29 : (ev : Bool) (it : Composed) → (badKind ev it ≡ 0 → ⊥) → badKind ev it ≡ typeLarge
+unfolding badKind
+bad-29 ev it h = bad-by (eqb (it .kind) 2) ev (eqb (it .kind) 1) (eqb (it .kind) 3) h
+
+first-or : (m a b : ℕ) → ((a ≡ 0 → ⊥) → a ≡ m) → ((b ≡ 0 → ⊥) → b ≡ m) → (orElse a b ≡ 0 → ⊥) → orElse a b ≡ m
+first-or m zero b f g h = g h
+first-or m (suc a) b f g h = f h
+
+first-is : {A : Type 0} (f : A → ℕ) (m : ℕ) → ((x : A) → (f x ≡ 0 → ⊥) → f x ≡ m) → (xs : List A) → (firstOf f xs ≡ 0 → ⊥) → firstOf f xs ≡ m
+unfolding firstOf
+first-is f m g [] h = absurd (h refl)
+first-is f m g (x ∷ xs) h = first-or m (f x) (firstOf f xs) (g x) (first-is f m g xs) h
+
+pub kinds-29 : (ev : Bool) (kinds spans : List (List ℕ)) (n : ℕ) → (kindsRefusal ev kinds spans n ≡ 0 → ⊥) → kindsRefusal ev kinds spans n ≡ typeLarge
+unfolding kindsRefusal
+kinds-29 ev kinds spans n h = first-is (badKind ev) typeLarge (bad-29 ev) (itemsIn (lists kinds spans [] [] [] []) n) h
 
 -- ---- a verdict of 0
 

@@ -4,11 +4,12 @@ use Prim.Native.Nat.{ℕ}
 use mathlib.Core.Bool.{Bool, true, false}
 use mathlib.Core.Path.{_≡_, refl, sym, ap₂, _∙_}
 use mathlib.Core.List.{List, []}
+use Rattle.base.specs.Numbers.{typeLarge}
 use Rattle.base.specs.Answers.{Frame, bytes, refused}
 use Rattle.base.proofs.Answers.{is-refused, not-refused}
 use Rattle.fields.specs.Header.{headerByte}
 use Rattle.bodies.specs.Body.{Lent}
-use Rattle.bodies.proofs.Laws.{known-body, no-lists}
+use Rattle.bodies.proofs.Laws.{known-body, no-lists, body-29}
 use Rattle.events.specs.Write.{eventWire, commandWire, stampedOfEvent, stampedOfCommand}
 use Rattle.events.proofs.Laws.{stamped-fine}
 use Rattle.packets.specs.Write.{payloadWire, payloadKinds, kindsIn, behind, messageOf}
@@ -46,3 +47,11 @@ none-known (Command p) = no-lists false (p .commands)
 pub message-alone : (l : Lent) (p : MeshPacket) → l .lists .kinds ≡ [] → l .lists .spans ≡ [] → messageOf l p ≡ behind (headerByte (p .mhdr)) (payloadWire l (p .payload))
 message-alone l p a b =
     message-known l p 0 (sym (ap₂ (λ (k s : List (List ℕ)). payloadKinds k s (p .payload)) a b ∙ none-known (p .payload))) refl
+
+-- and what is refused is refused with 29
+pub strange-29 : (kinds spans : List (List ℕ)) (q : Payload) → (payloadKinds kinds spans q ≡ 0 → ⊥) → payloadKinds kinds spans q ≡ typeLarge
+unfolding payloadKinds
+strange-29 kinds spans (Uplink p) h = absurd (h refl)
+strange-29 kinds spans (Downlink p) h = absurd (h refl)
+strange-29 kinds spans (Event p) h = body-29 true kinds spans (p .events) h
+strange-29 kinds spans (Command p) h = body-29 false kinds spans (p .commands) h
