@@ -1,4 +1,6 @@
 pub mod Examples
+pub mod Said
+pub mod Refusals
 pub mod Demand1
 pub mod Demand2
 pub mod Signing
