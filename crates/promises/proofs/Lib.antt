@@ -7,3 +7,4 @@ pub mod Signing
 pub mod Demand3
 pub mod Rules
 pub mod Dump
+pub mod Face

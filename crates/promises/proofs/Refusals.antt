@@ -37,7 +37,6 @@ use Rattle.fields.specs.declared.meta.DownlinkMetadata.{DownlinkMetadata}
 use Rattle.fields.specs.declared.path.RelayPath.{RelayPath}
 use Rattle.items.specs.Items.{badBeat, openingOf, itemAt, bareItemAt, countsOf, itemSays, countsSay}
 use Rattle.heartbeats.specs.Heartbeat.{beatRefusal, beatOf, beatWire, entryRead, beatSays, pathSays}
-use Rattle.heartbeats.specs.declared.heartbeat.HeartbeatRead.{HeartbeatRead}
 use Rattle.heartbeats.specs.declared.heartbeat.HeartbeatRead.the-variants.{Heartbeat, Refused as NoBeat}
 use Rattle.seal.specs.Stream.{sealedOf}
 use Rattle.wire.specs.Number.{beBytes}
@@ -111,7 +110,7 @@ says-number n (number k) e = ap number e
 
 -- ---- chains of tests
 
-picked : {A : Type 0} → {B : Type 0} → (f : B → Answer A) (t : Bool) (x y : B) → Numbered (f x) → Numbered (f y) → Numbered (f (pick t x y))
+pub picked : {A : Type 0} → {B : Type 0} → (f : B → Answer A) (t : Bool) (x y : B) → Numbered (f x) → Numbered (f y) → Numbered (f (pick t x y))
 picked f true x y a b = a
 picked f false x y a b = b
 

@@ -1,5 +1,5 @@
 -- The words in which the promises speak of an answer. Assumes nothing.
-use Prim.Native.Nat.{ℕ, _<_}
+use Prim.Native.Nat.{_<_}
 use mathlib.Core.Path.{_≡_}
 use Rattle.base.specs.Answers.{Answer, value, number}
 
