@@ -1,8 +1,12 @@
--- The product in GF(2^8), by two and three, and that of bytes it is a byte. Assumes nothing.
+-- The product in GF(2^8): that of bytes is a byte, and that of a byte and its inverse is 1. Assumes nothing.
 use Prim.Native.Nat.{ℕ, zero, suc, _*_, _/_, _%_, _<_}
 use native.Mathlib.Omega.{arith}
+use mathlib.Core.Bool.{Bool, true}
+use mathlib.Core.Path.{_≡_, refl}
 use lib.Bits.{xor-lt}
-use Rattle.fips197.specs.Field.{xtime, bitTimes, mulBits, mul}
+use lib.Dec.{T, eqb, eqb→eq}
+use Rattle.base.proofs.Below.{each, below}
+use Rattle.fips197.specs.Field.{xtime, bitTimes, mulBits, mul, powerBits, inverse}
 
 pub xtime-lt : (a : ℕ) → a < 256 → xtime a < 256
 unfolding xtime
@@ -21,3 +25,21 @@ bits-lt (suc n) a b h =
 pub mul-lt : (a b : ℕ) → b < 256 → mul a b < 256
 unfolding mul
 mul-lt a b h = bits-lt 8 a b h
+
+-- section 4.4's inverse, at every byte but 0, by one computation
+inverts : ℕ → Bool
+inverts zero = true
+inverts (suc b) = eqb (mul (suc b) (inverse (suc b))) 1
+
+all-invert : T (each inverts 0 256)
+unfolding inverts xtime mulBits mul powerBits inverse
+all-invert = tt
+
+pub times-inverse : (b : ℕ) → 0 < b → b < 256 → mul b (inverse b) ≡ 1
+unfolding inverts
+times-inverse zero l h = absurd (omega arith)
+times-inverse (suc b) l h = eqb→eq (mul (suc b) (inverse (suc b))) 1 (below inverts 256 all-invert (suc b) h)
+
+pub inverse-of-0 : inverse 0 ≡ 0
+unfolding xtime mulBits mul powerBits inverse
+inverse-of-0 = refl

@@ -3,8 +3,8 @@
 -- nothing.
 use Prim.Native.Nat.{ℕ, _+_, _/_, _≤_, _<_}
 use mathlib.Core.Bool.{Bool, true, false}
-use mathlib.Core.Path.{_≡_, refl, ap, _∙_}
-use mathlib.Core.List.{List, [], _++_, foldl, flatten}
+use mathlib.Core.Path.{_≡_, refl, sym, ap, _∙_}
+use mathlib.Core.List.{List, [], _++_, foldl, flatten, map}
 use lib.Dec.{ltb, eqb}
 use lib.ListN.{length, getD}
 use Rattle.base.specs.Lists.{Bytes}
@@ -26,7 +26,7 @@ use Rattle.items.specs.Items.{openingOf}
 use Rattle.items.proofs.Laws.{bytes-sum}
 use Rattle.composed.specs.Composed.{Lists}
 use Rattle.bodies.specs.Body.{Lent, bodyOf, bodyBytes}
-use Rattle.bodies.specs.Open.{decryptOf, openedBy}
+use Rattle.bodies.specs.Open.{decryptOf, openedBy, openedSays}
 use Rattle.payloads.specs.Write.{downlinkHead}
 use Rattle.payloads.specs.Read.{heard}
 use Rattle.payloads.specs.declared.uplink.UplinkPayload.{UplinkPayload}
@@ -35,7 +35,7 @@ use Rattle.events.specs.Seal.{eventSeal, commandSeal}
 use Rattle.events.specs.declared.stamped.EventPayload.{EventPayload}
 use Rattle.events.specs.declared.stamped.CommandPayload.{CommandPayload}
 use Rattle.packets.specs.Read.{meshOf, packetOf, ofMesh, meshSays, packetSays}
-use Rattle.packets.specs.Write.{meshFrame, loraFrame}
+use Rattle.packets.specs.Write.{meshFrame, loraFrame, packetFrame}
 use Rattle.packets.specs.declared.mesh.Payload.the-variants as payload
 use Rattle.packets.specs.declared.mesh.MeshPacket.{MeshPacket}
 use Rattle.packets.specs.declared.mesh.MeshRead.{MeshRead}
@@ -44,20 +44,28 @@ use Rattle.packets.specs.declared.any.Packet.the-variants.{Lora}
 use Rattle.trips.specs.Which.{meshNumber, packetNumber, cleared, framed}
 use Rattle.trips.proofs.Which.{which}
 use Rattle.trips.proofs.Same.{again}
-use Rattle.trips.proofs.Back.{uplink-back, downlink-back, event-back, command-back, lora-back}
+use Rattle.trips.proofs.Back.{uplink-back, downlink-back, event-back, command-back, lora-back, lora-again}
 use Rattle.trips.proofs.Sealed as sealed
-use Rattle.cache.specs.Cache.{sameRecord, answersLast, ringAnswers, newOf}
+use Rattle.cache.specs.Cache.{sameRecord, answersLast, ringAnswers, newOf, addSays}
 use Rattle.cache.specs.declared.record.PayloadCache.{PayloadCache}
 use Rattle.cache.proofs.Laws.{same-is, adds-list, last-added}
 use Rattle.packed.specs.Packed.{clearedWords, packedAnswers, SmallIds}
 use Rattle.packed.proofs.Laws.{packed-adds-list}
 use Rattle.packets.specs.Seal.{carrying}
+use Rattle.promises.specs.Said.{Accepts}
+use Rattle.promises.proofs.Said.{mesh-said, packet-said}
+use Rattle.promises.proofs.Refusals.{zero-accepts, accepts-zero, mesh-read, packet-read}
 
 -- ---- reading
 
 -- "Reading: 1, 5, 2, 3, 4", each exactly when document 01 says, by `meshNumber`; 0 where the frame is read
 pub mesh-reader : (s : List ℕ) → numberIn (meshSays (meshOf s)) ≡ meshNumber s
 mesh-reader = which
+
+-- and 0 exactly if it is
+pub mesh-reader-reads : (s : List ℕ) → (meshNumber s ≡ 0 → Accepts (meshSays (meshOf s))) × (Accepts (meshSays (meshOf s)) → meshNumber s ≡ 0)
+mesh-reader-reads s =
+    (λ e. zero-accepts (meshSays (meshOf s)) (mesh-read s) (mesh-reader s ∙ e), λ a. sym (mesh-reader s) ∙ accepts-zero (meshSays (meshOf s)) a)
 
 -- "The packet reader takes any other top bits as a LoRa frame, so it never gives 3": 1, 5, then 2 and 4 of a mesh frame
 through : (r : MeshRead) → numberIn (packetSays (ofMesh r)) ≡ numberIn (meshSays r)
@@ -82,35 +90,43 @@ packet-by s false false false ea eb ec = simp (ea, eb, ec)
 pub packet-reader : (s : List ℕ) → numberIn (packetSays (packetOf s)) ≡ packetNumber s
 packet-reader s = packet-by s (eqb (length s) 0) (ltb frameMost (length s)) (eqb (getD s 0 0 / 32) 7) refl refl refl
 
+pub packet-reader-reads : (s : List ℕ) → (packetNumber s ≡ 0 → Accepts (packetSays (packetOf s))) × (Accepts (packetSays (packetOf s)) → packetNumber s ≡ 0)
+packet-reader-reads s =
+    (λ e. zero-accepts (packetSays (packetOf s)) (packet-read s) (packet-reader s ∙ e), λ a. sym (packet-reader s) ∙ accepts-zero (packetSays (packetOf s)) a)
+
 -- ---- reading and writing
 
--- what is read is written as the same bytes, but for an uplink's two ignored bits, whatever else is lent
-pub read-then-written : (s : List ℕ) (x : Lists) (p : MeshPacket) → Bytes s → meshOf s ≡ Mesh p → meshFrame (framed s x) p ≡ bytes (cleared s)
-read-then-written = again
+-- what is read is written as the same bytes, but for an uplink's two ignored bits, whatever else is lent; a LoRa frame as the same bytes
+pub read-then-written : (s : List ℕ) (x : Lists) (p : MeshPacket) → Bytes s → meshSays (meshOf s) ≡ value p → meshFrame (framed s x) p ≡ bytes (cleared s)
+read-then-written s x p b e = again s x p b (mesh-said (meshOf s) p e)
+
+pub lora-read-then-written : (s : List ℕ) (x : Lists) (r : Run) → packetSays (packetOf s) ≡ value (Lora r) → packetFrame (framed s x) (Lora r) ≡ bytes s
+unfolding packetFrame
+lora-read-then-written s x r e = lora-again s r (packet-said (packetOf s) (Lora r) e)
 
 -- what is written is read back: a packet whose header's type is its payload's kind, with the run where it lies now
 module _ (l : Lent) (w : List ℕ) (p : MeshPacket) (written : meshFrame l p ≡ bytes w) (mic : p .mic < 4294967296) where
   pub uplink-written-then-read : (u : UplinkPayload) → p .payload ≡ payload.Uplink u → p .mhdr .«payload_type» ≡ Uplink → u .metadata .channel < 256 → u .«relay_id» < 4294967296
-      → (meshOf w ≡ Mesh (carrying p (payload.Uplink (record { metadata = u .metadata; «relay_id» = u .«relay_id»; «phy_payload» = runAt 10 (length (runBytes (l .frame) (u .«phy_payload»))) }))))
+      → (meshSays (meshOf w) ≡ value (carrying p (payload.Uplink (record { metadata = u .metadata; «relay_id» = u .«relay_id»; «phy_payload» = runAt 10 (length (runBytes (l .frame) (u .«phy_payload»))) }))))
       × (runBytes w (runAt 10 (length (runBytes (l .frame) (u .«phy_payload»)))) ≡ runBytes (l .frame) (u .«phy_payload»))
-  uplink-written-then-read = uplink-back l w p written mic
+  uplink-written-then-read u k t c r = let b = uplink-back l w p written mic u k t c r in (ap meshSays (b .0), b .1)
 
   -- a downlink's frequency is heard as `heard` says: from 2.4 GHz on in whole steps of 200 Hz, and from 1.2 GHz up to there as its double (P6)
   pub downlink-written-then-read : (u : DownlinkPayload) → p .payload ≡ payload.Downlink u → p .mhdr .«payload_type» ≡ Downlink → u .«relay_id» < 4294967296
       → (h : List ℕ) × (downlinkHead u ≡ bytes h)
-      × (meshOf w ≡ Mesh (carrying p (payload.Downlink (record { metadata = heard (u .metadata) h; «relay_id» = u .«relay_id»; «phy_payload» = runAt 11 (length (runBytes (l .frame) (u .«phy_payload»))) }))))
+      × (meshSays (meshOf w) ≡ value (carrying p (payload.Downlink (record { metadata = heard (u .metadata) h; «relay_id» = u .«relay_id»; «phy_payload» = runAt 11 (length (runBytes (l .frame) (u .«phy_payload»))) }))))
       × (runBytes w (runAt 11 (length (runBytes (l .frame) (u .«phy_payload»)))) ≡ runBytes (l .frame) (u .«phy_payload»))
-  downlink-written-then-read = downlink-back l w p written mic
+  downlink-written-then-read u k t r = let b = downlink-back l w p written mic u k t r in (b .0, b .1, ap meshSays (b .2), b .3)
 
   pub event-written-then-read : (u : EventPayload) → p .payload ≡ payload.Event u → p .mhdr .«payload_type» ≡ Event → u .timestamp < 4294967296 → u .«relay_id» < 4294967296
-      → (meshOf w ≡ Mesh (carrying p (payload.Event (record { timestamp = u .timestamp; «relay_id» = u .«relay_id»; events = bodyOf 9 (length (bodyBytes true l (u .events))) }))))
+      → (meshSays (meshOf w) ≡ value (carrying p (payload.Event (record { timestamp = u .timestamp; «relay_id» = u .«relay_id»; events = bodyOf 9 (length (bodyBytes true l (u .events))) }))))
       × (runBytes w (runAt 9 (length (bodyBytes true l (u .events)))) ≡ bodyBytes true l (u .events))
-  event-written-then-read = event-back l w p written mic
+  event-written-then-read u k t s r = let b = event-back l w p written mic u k t s r in (ap meshSays (b .0), b .1)
 
   pub command-written-then-read : (u : CommandPayload) → p .payload ≡ payload.Command u → p .mhdr .«payload_type» ≡ Command → u .timestamp < 4294967296 → u .«relay_id» < 4294967296
-      → (meshOf w ≡ Mesh (carrying p (payload.Command (record { timestamp = u .timestamp; «relay_id» = u .«relay_id»; commands = bodyOf 9 (length (bodyBytes false l (u .commands))) }))))
+      → (meshSays (meshOf w) ≡ value (carrying p (payload.Command (record { timestamp = u .timestamp; «relay_id» = u .«relay_id»; commands = bodyOf 9 (length (bodyBytes false l (u .commands))) }))))
       × (runBytes w (runAt 9 (length (bodyBytes false l (u .commands)))) ≡ bodyBytes false l (u .commands))
-  command-written-then-read = command-back l w p written mic
+  command-written-then-read u k t s r = let b = command-back l w p written mic u k t s r in (ap meshSays (b .0), b .1)
 
 -- a LoRa frame, unless its first byte would make it a mesh frame
 pub lora-written-then-read : (s w : List ℕ) (r : Run) → loraFrame s r ≡ bytes w → 1 ≤ length w → (getD w 0 0 / 32 ≡ 7 → ⊥)
@@ -142,12 +158,12 @@ sealed-twice = seal-twice
 -- what is sealed opens to what was sealed, under the same key, in a work buffer k
 module _ (key : List ℕ) (l : Lent) (w rest : List ℕ) (x : Lists) (k : List ℕ) where
   pub event-sealed-then-opened : (u : EventPayload) → eventSeal key l u ≡ bytes w
-      → decryptOf key false (u .«relay_id») (u .timestamp) (bodyOf 0 (length w)) (w ++ rest) k ≡ openedBy true (bytes (bodyBytes true l (u .events))) k
-  event-sealed-then-opened u e = sealed.event-opened key l w rest x u k e
+      → openedSays (decryptOf key false (u .«relay_id») (u .timestamp) (bodyOf 0 (length w)) (w ++ rest) k) ≡ openedSays (openedBy true (bytes (bodyBytes true l (u .events))) k)
+  event-sealed-then-opened u e = ap openedSays (sealed.event-opened key l w rest x u k e)
 
   pub command-sealed-then-opened : (u : CommandPayload) → commandSeal key l u ≡ bytes w
-      → decryptOf key true (u .«relay_id») (u .timestamp) (bodyOf 0 (length w)) (w ++ rest) k ≡ openedBy false (bytes (bodyBytes false l (u .commands))) k
-  command-sealed-then-opened u e = sealed.command-opened key l w rest x u k e
+      → openedSays (decryptOf key true (u .«relay_id») (u .timestamp) (bodyOf 0 (length w)) (w ++ rest) k) ≡ openedSays (openedBy false (bytes (bodyBytes false l (u .commands))) k)
+  command-sealed-then-opened u e = ap openedSays (sealed.command-opened key l w rest x u k e)
 
 -- ---- items
 
@@ -164,9 +180,9 @@ pub same-record : (a b : PayloadCache) → (sameRecord a b ≡ true → a ≡ b)
 same-record = same-is
 
 -- "The cache answers no exactly if the value equals one of the last size values added": over every sequence of adds to a new cache
-pub cache-answers : (n : ℕ) → 1 ≤ n → n ≤ 64 → (rs : List PayloadCache) → ringAnswers (newOf n .cache) rs ≡ answersLast n [] rs
-cache-answers n h k rs = adds-list n h k rs ∙ last-added n h rs
+pub cache-answers : (n : ℕ) → 1 ≤ n → n ≤ 64 → (rs : List PayloadCache) → map addSays (ringAnswers (newOf n .cache) rs) ≡ map addSays (answersLast n [] rs)
+cache-answers n h k rs = ap (map addSays) (adds-list n h k rs ∙ last-added n h rs)
 
 -- the same of the cache in words, for records whose id fits in 16 bits
-pub packed-cache-answers : (n : ℕ) → 1 ≤ n → n ≤ 64 → (rs : List PayloadCache) → SmallIds rs → packedAnswers (clearedWords n) rs ≡ answersLast n [] rs
-packed-cache-answers n h k rs f = packed-adds-list n h k rs f ∙ last-added n h rs
+pub packed-cache-answers : (n : ℕ) → 1 ≤ n → n ≤ 64 → (rs : List PayloadCache) → SmallIds rs → map addSays (packedAnswers (clearedWords n) rs) ≡ map addSays (answersLast n [] rs)
+packed-cache-answers n h k rs f = ap (map addSays) (packed-adds-list n h k rs f ∙ last-added n h rs)

@@ -1,7 +1,10 @@
 pub mod Examples
+pub mod Said
+pub mod Refusals
 pub mod Demand1
 pub mod Demand2
 pub mod Signing
 pub mod Demand3
 pub mod Rules
 pub mod Dump
+pub mod Face

@@ -11,7 +11,7 @@ use borrow.Author.Tests.{lt-ltb, le-ltb, eq-eqb, ne-eqb}
 use Rattle.base.specs.Lists.{Bytes}
 use Rattle.base.specs.Blocks.{Block}
 use Rattle.base.specs.Numbers.{hopsNone, hopsMany, notMesh, typeLarge, keyLength, keyDigit, frequencyLarge, frequencyStep, frequencyLength, bodyShort, cacheSize, itemLong, heartbeatLength, outputShort, outside}
-use Rattle.base.specs.Answers.{value, number, bytes, checkedSays, numberIn}
+use Rattle.base.specs.Answers.{value, number, bytes, checkedSays}
 use Rattle.wire.specs.Hex.{allHex, unhex, hexText}
 use Rattle.fips197.specs.Aes.{aes}
 use Rattle.aes128.specs.Key.{keyOf, keySays, keyFromSlice, keyFromText, signingKey, encryptionKey}
@@ -30,9 +30,6 @@ use Rattle.fields.proofs.Laws.Freq.{freq-again}
 use Rattle.fields.proofs.Laws.Signal.{rssi-back, rssi-again, snr-back, snr-again}
 use Rattle.fields.proofs.Laws.Meta.{up-back, up-again, down-again}
 use Rattle.fields.proofs.Laws.Path.{path-back, path-again}
-use Rattle.fields.specs.declared.header.HeaderByte.the-variants.{Byte}
-use Rattle.fields.specs.declared.header.HeaderRead.the-variants.{Header}
-use Rattle.fields.specs.declared.signal.SignalByte.the-variants as signal
 use Rattle.heartbeats.specs.Heartbeat.{pathsOf, beatRefusal, beatOf, entryRead, beatWire, beatSays, pathSays, noPath, FourByteIds}
 use Rattle.heartbeats.specs.declared.heartbeat.HeartbeatPayload.{HeartbeatPayload}
 use Rattle.heartbeats.proofs.Laws.{refused-entries, taken-entries, beat-back}
@@ -41,7 +38,10 @@ use Rattle.items.proofs.Laws.{turn}
 use Rattle.packets.specs.Read.{meshOf, meshSays}
 use Rattle.trips.specs.Which.{leastFrame, meshNumber}
 use Rattle.cache.specs.Cache.{newOf}
-use Rattle.promises.proofs.Demand2.{mesh-reader}
+use Rattle.promises.specs.Said.{Accepts}
+use Rattle.promises.proofs.Said.{header-said, byte-said, signal-said}
+use Rattle.promises.proofs.Refusals.{says-number}
+use Rattle.promises.proofs.Demand2.{mesh-reader, mesh-reader-reads}
 
 -- ---- the header byte
 
@@ -60,11 +60,11 @@ unfolding headerByte
 hop-count-many t n l = let k : 1 ≤ n = omega arith in simp (le-ltb n 1 k, lt-ltb 8 n l)
 
 -- written and read back, read and written again; 3 where the top three bits are not 111
-pub header-written-then-read : (h : MHDR) (b : ℕ) → headerByte h ≡ Byte b → headerSays (headerOf b) ≡ value h
-header-written-then-read h b e = ap headerSays (header-back h b e)
+pub header-written-then-read : (h : MHDR) (b : ℕ) → byteSays (headerByte h) ≡ value b → headerSays (headerOf b) ≡ value h
+header-written-then-read h b e = ap headerSays (header-back h b (byte-said (headerByte h) b e))
 
-pub header-read-then-written : (b : ℕ) → b < 256 → (h : MHDR) → headerOf b ≡ Header h → byteSays (headerByte h) ≡ value b
-header-read-then-written b l h e = ap byteSays (header-again b l h e)
+pub header-read-then-written : (b : ℕ) → b < 256 → (h : MHDR) → headerSays (headerOf b) ≡ value h → byteSays (headerByte h) ≡ value b
+header-read-then-written b l h e = ap byteSays (header-again b l h (header-said (headerOf b) h e))
 
 pub header-not-mesh : (b : ℕ) → (b / 32 ≡ 7 → ⊥) → headerSays (headerOf b) ≡ number notMesh
 header-not-mesh b h = ap headerSays (not-marked b h)
@@ -84,15 +84,15 @@ pub rssi-is-minus-the-byte : (b : ℕ) → b < 256 → (rssiOf b ≡ negℤ (pos
 unfolding rssiOf
 rssi-is-minus-the-byte b h = (refl, ap signalSays (rssi-again b h))
 
-pub rssi-written-then-read : (x : ℤ) (b : ℕ) → rssiByte x ≡ signal.Byte b → rssiOf b ≡ x
-rssi-written-then-read = rssi-back
+pub rssi-written-then-read : (x : ℤ) (b : ℕ) → signalSays (rssiByte x) ≡ value b → rssiOf b ≡ x
+rssi-written-then-read x b e = rssi-back x b (signal-said (rssiByte x) b e)
 
 -- "Snr is the low six bits as a signed number; the top two bits are ignored and written as 0"
 pub snr-read-then-written : (b : ℕ) → b < 256 → signalSays (snrByte (snrOf b)) ≡ value (b % 64)
 snr-read-then-written b h = ap signalSays (snr-again b h)
 
-pub snr-written-then-read : (x : ℤ) (b : ℕ) → snrByte x ≡ signal.Byte b → snrOf b ≡ x
-snr-written-then-read = snr-back
+pub snr-written-then-read : (x : ℤ) (b : ℕ) → signalSays (snrByte x) ≡ value b → snrOf b ≡ x
+snr-written-then-read x b e = snr-back x b (signal-said (snrByte x) b e)
 
 -- "Then 17 if the value divided by 100 is 2^24 or more, then 18": of a frequency f below 2.4 GHz, and from there up of its half
 pub frequency-too-large : (f : ℕ) → 16777215 < halvedOf f / 100 → stepsSays (stepsOf f) ≡ number frequencyLarge
@@ -137,21 +137,22 @@ path-entry-written-then-read p w h e = path-back p w h e .2
 abbrev isMesh : List ℕ → Type 0
 isMesh s = (5 ≤ length s) × (length s ≤ 8192) × (getD s 0 0 / 32 ≡ 7)
 
-pub long-enough : (s : List ℕ) → isMesh s → leastFrame (getD s 0 0 / 8 % 4) ≤ length s → numberIn (meshSays (meshOf s)) ≡ 0
+pub long-enough : (s : List ℕ) → isMesh s → leastFrame (getD s 0 0 / 8 % 4) ≤ length s → Accepts (meshSays (meshOf s))
 unfolding meshNumber
 long-enough s m l =
     let a : 5 ≤ length s = m .0 in
     let b : length s ≤ 8192 = m .1 in
-    mesh-reader s
-    ∙ simp (ne-eqb (length s) 0 (λ z. omega arith), le-ltb 8192 (length s) b, le-ltb (length s) 5 a, eq-eqb (getD s 0 0 / 32) 7 (m .2), le-ltb (length s) (leastFrame (getD s 0 0 / 8 % 4)) l)
+    mesh-reader-reads s .0
+    (simp (ne-eqb (length s) 0 (λ z. omega arith), le-ltb 8192 (length s) b, le-ltb (length s) 5 a, eq-eqb (getD s 0 0 / 32) 7 (m .2), le-ltb (length s) (leastFrame (getD s 0 0 / 8 % 4)) l))
 
-pub one-byte-less : (s : List ℕ) → isMesh s → length s < leastFrame (getD s 0 0 / 8 % 4) → numberIn (meshSays (meshOf s)) ≡ bodyShort
+pub one-byte-less : (s : List ℕ) → isMesh s → length s < leastFrame (getD s 0 0 / 8 % 4) → meshSays (meshOf s) ≡ number bodyShort
 unfolding meshNumber
 one-byte-less s m l =
     let a : 5 ≤ length s = m .0 in
     let b : length s ≤ 8192 = m .1 in
-    mesh-reader s
-    ∙ simp (ne-eqb (length s) 0 (λ z. omega arith), le-ltb 8192 (length s) b, le-ltb (length s) 5 a, eq-eqb (getD s 0 0 / 32) 7 (m .2), lt-ltb (length s) (leastFrame (getD s 0 0 / 8 % 4)) l)
+    says-number 3 (meshSays (meshOf s))
+    (mesh-reader s
+    ∙ simp (ne-eqb (length s) 0 (λ z. omega arith), le-ltb 8192 (length s) b, le-ltb (length s) 5 a, eq-eqb (getD s 0 0 / 32) 7 (m .2), lt-ltb (length s) (leastFrame (getD s 0 0 / 8 % 4)) l))
 
 -- ---- keys
 

@@ -17,6 +17,7 @@ use Rattle.packets.specs.Write.{messageOf, meshFrame}
 use Rattle.packets.specs.declared.mesh.MeshPacket.{MeshPacket}
 use Rattle.packets.specs.declared.mesh.MeshRead.the-variants.{Mesh}
 use Rattle.mic.specs.declared.Validated.the-variants.{Valid, Invalid}
+use Rattle.promises.proofs.Said.{mesh-said}
 use Rattle.mic.specs.Mic.{micOf, fitting, signedOf, carryingMic, signedBy, setMic, comparedBy, validateMic, validSays}
 
 -- "The MIC is the first 4 bytes of the CMAC over header byte and body as the writer writes them": what is signed is what is written before
@@ -80,6 +81,6 @@ module _ (E : List ℕ → List ℕ) (l : Lent) (p : MeshPacket) where
       by true = refl
       by false = refl
 
-  pub valid-exactly-with-its-mic : (q : MeshPacket) → setMic E l p ≡ Mesh q → (m : ℕ) → validSays (validateMic E l (carryingMic p m)) ≡ value (eqb m (q .mic))
+  pub valid-exactly-with-its-mic : (q : MeshPacket) → meshSays (setMic E l p) ≡ value q → (m : ℕ) → validSays (validateMic E l (carryingMic p m)) ≡ value (eqb m (q .mic))
   unfolding setMic signedOf
-  valid-exactly-with-its-mic q e m = valid-by m (fitting (messageOf l p)) refl q e m
+  valid-exactly-with-its-mic q e m = valid-by m (fitting (messageOf l p)) refl q (mesh-said (setMic E l p) q e) m

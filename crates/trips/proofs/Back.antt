@@ -6,12 +6,12 @@ use native.Mathlib.Nat.{min-le-left}
 use native.Mathlib.Omega.{arith}
 use mathlib.Core.Bool.{Bool, true, false}
 use mathlib.Core.Path.{_≡_, refl, sym, ap, _∙_}
-use mathlib.Core.List.{List, [], _∷_, _++_, append-assoc}
-use lib.Dec.{ltb}
+use mathlib.Core.List.{List, [], _∷_, _++_, append-nil, append-assoc}
+use lib.Dec.{ltb, eqb}
 use lib.ListN.{length, getD, take, drop, length-append, length-take}
 use lib.Seq.{drop-at, take-append-seam}
 use borrow.Author.Tests.{le-ltb, ne-eqb, ltb-false}
-use Rattle.base.proofs.Answers.{unless-bytes}
+use Rattle.base.proofs.Answers.{not-refused, unless-bytes}
 use Rattle.base.specs.Pick.{pick}
 use Rattle.base.specs.Answers.{bytes, refused}
 use Rattle.wire.specs.Number.{beBytes}
@@ -32,16 +32,18 @@ use Rattle.events.specs.declared.stamped.EventPayload.{EventPayload}
 use Rattle.events.specs.declared.stamped.CommandPayload.{CommandPayload}
 use Rattle.payloads.proofs.Laws.{run-bytes, uplink-length, downlink-length, uplink-read-back, downlink-read-back}
 use Rattle.events.proofs.Laws.{stamp-length, stamped-bytes, event-read-back, command-read-back}
-use Rattle.packets.specs.Read.{ofUplink, ofDownlink, ofEvent, ofCommand, payloadAt, meshOf, packetOf}
+use Rattle.packets.specs.Read.{ofUplink, ofDownlink, ofEvent, ofCommand, payloadAt, meshOf, ofMesh, packetOf}
 use Rattle.packets.specs.Write.{payloadWire, meshFrame, loraFrame}
 use Rattle.packets.specs.declared.mesh.Payload.{Payload}
 use Rattle.packets.specs.declared.mesh.Payload.the-variants.{Uplink as AnUplink, Downlink as ADownlink, Event as AnEvent, Command as ACommand}
 use Rattle.packets.specs.declared.mesh.PayloadRead.the-variants.{Payload as PayloadIs}
 use Rattle.packets.specs.declared.mesh.MeshPacket.{MeshPacket}
-use Rattle.packets.specs.declared.mesh.MeshRead.the-variants.{Mesh}
+use Rattle.packets.specs.declared.mesh.MeshRead.{MeshRead}
+use Rattle.packets.specs.declared.mesh.MeshRead.the-variants.{Mesh, Refused}
 use Rattle.packets.specs.declared.any.Packet.the-variants.{Lora}
-use Rattle.packets.specs.declared.any.PacketRead.the-variants.{Packet as PacketIs}
+use Rattle.packets.specs.declared.any.PacketRead.the-variants.{Packet as PacketIs, Refused as NoPacket}
 use Rattle.trips.proofs.Trip.{Made, made, readAs, frame-read}
+use Rattle.trips.proofs.Same.{inside}
 use Rattle.packets.specs.Seal.{carrying}
 
 -- the part behind x is v
@@ -159,3 +161,31 @@ lora-back s w r e l h =
     let m = part-most s (r .start) (r .len) in
     let n : length w ≤ 8192 = let q : length (runBytes s r) ≡ length w = ap length (c .1) in omega (arith, c .0) in
     (simp (ne-eqb (length w) 0 (λ z. omega arith), le-ltb 8192 (length w) n, ne-eqb (getD w 0 0 / 32) 7 h), sym (c .1))
+
+-- read, and written again: a run over the whole frame
+whole-part : (s : List ℕ) → partOf s 0 (length s) ≡ s
+whole-part s = ap (λ (z : List ℕ). partOf z 0 (length s)) (sym (append-nil s)) ∙ part-behind [] s [] 0 refl
+
+whole-written : (s : List ℕ) → length s ≤ 8192 → loraFrame s (runAt 0 (length s)) ≡ bytes s
+unfolding loraFrame
+whole-written s m =
+    sym (not-refused (runRefusal (length s) (runAt 0 (length s))) _ (inside (length s) 0 (length s) (omega arith)))
+    ∙ simp (le-ltb 8192 (length s) m) (ap bytes (whole-part s))
+
+no-packet : (n : ℕ) (r : Run) → NoPacket n ≡ PacketIs (Lora r) → ⊥
+no-packet n r e = let z : _≡_ {A = ℕ} 0 1 = cc in omega arith
+
+no-lora : (m : MeshRead) (r : Run) → ofMesh m ≡ PacketIs (Lora r) → ⊥
+no-lora (Mesh p) r e = let z : _≡_ {A = ℕ} 0 1 = cc in omega arith
+no-lora (Refused n) r e = no-packet n r e
+
+pub lora-again : (s : List ℕ) (r : Run) → packetOf s ≡ PacketIs (Lora r) → loraFrame s r ≡ bytes s
+unfolding packetOf
+lora-again s r e = by (eqb (length s) 0) (ltb 8192 (length s)) (eqb (getD s 0 0 / 32) 7) refl e
+  where
+    by : (a b c : Bool) → ltb 8192 (length s) ≡ b → pick a (NoPacket 1) (pick b (NoPacket 5) (pick c (ofMesh (meshOf s)) (PacketIs (Lora (runAt 0 (length s)))))) ≡ PacketIs (Lora r)
+        → loraFrame s r ≡ bytes s
+    by true b c q x = absurd (no-packet 1 r x)
+    by false true c q x = absurd (no-packet 5 r x)
+    by false false true q x = absurd (no-lora (meshOf s) r x)
+    by false false false q x = let y : runAt 0 (length s) ≡ r = cc in rw (← y) (whole-written s (ltb-false _ _ q))

@@ -1,0 +1,48 @@
+-- What an answer says, it is: so that a promise may ask by `..Says` what a law below asks of the answer itself. Assumes nothing.
+use Prim.Native.Nat.{ℕ}
+use native.Mathlib.Omega.{arith}
+use mathlib.Core.Path.{_≡_}
+use Rattle.base.specs.Answers.{value, number}
+use Rattle.fields.specs.Header.{headerSays, byteSays}
+use Rattle.fields.specs.Signal.{signalSays}
+use Rattle.fields.specs.declared.header.MHDR.{MHDR}
+use Rattle.fields.specs.declared.header.HeaderRead.{HeaderRead}
+use Rattle.fields.specs.declared.header.HeaderRead.the-variants as header
+use Rattle.fields.specs.declared.header.HeaderByte.{HeaderByte}
+use Rattle.fields.specs.declared.header.HeaderByte.the-variants as byte
+use Rattle.fields.specs.declared.signal.SignalByte.{SignalByte}
+use Rattle.fields.specs.declared.signal.SignalByte.the-variants as signal
+use Rattle.packets.specs.Read.{meshSays, packetSays}
+use Rattle.packets.specs.declared.mesh.MeshPacket.{MeshPacket}
+use Rattle.packets.specs.declared.mesh.MeshRead.{MeshRead}
+use Rattle.packets.specs.declared.mesh.MeshRead.the-variants as mesh
+use Rattle.packets.specs.declared.any.Packet.{Packet}
+use Rattle.packets.specs.declared.any.PacketRead.{PacketRead}
+use Rattle.packets.specs.declared.any.PacketRead.the-variants as packet
+
+never : _≡_ {A = ℕ} 0 1 → ⊥
+never e = omega arith
+
+pub header-said : (r : HeaderRead) (h : MHDR) → headerSays r ≡ value h → r ≡ header.Header h
+header-said (header.Header k) h e = cc
+header-said (header.Refused n) h e = absurd (never (cc))
+
+pub byte-said : (r : HeaderByte) (b : ℕ) → byteSays r ≡ value b → r ≡ byte.Byte b
+byte-said (byte.Byte k) b e = cc
+byte-said (byte.Refused n) b e = absurd (never (cc))
+
+pub signal-said : (r : SignalByte) (b : ℕ) → signalSays r ≡ value b → r ≡ signal.Byte b
+signal-said (signal.Byte k) b e = cc
+signal-said (signal.Refused n) b e = absurd (never (cc))
+
+pub mesh-said : (r : MeshRead) (p : MeshPacket) → meshSays r ≡ value p → r ≡ mesh.Mesh p
+mesh-said (mesh.Mesh q) p e = cc
+mesh-said (mesh.Refused n) p e = absurd (never (cc))
+
+pub mesh-refused : (r : MeshRead) (n : ℕ) → meshSays r ≡ number n → r ≡ mesh.Refused n
+mesh-refused (mesh.Mesh q) n e = absurd (never (cc))
+mesh-refused (mesh.Refused k) n e = cc
+
+pub packet-said : (r : PacketRead) (p : Packet) → packetSays r ≡ value p → r ≡ packet.Packet p
+packet-said (packet.Packet q) p e = cc
+packet-said (packet.Refused n) p e = absurd (never (cc))
