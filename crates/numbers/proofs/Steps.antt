@@ -6,11 +6,11 @@ use mathlib.Core.Path.{_≡_, refl, sym, ap, ap₂, _∙_}
 use mathlib.Core.List.{List, [], _∷_}
 use lib.Dec.{ltb}
 use lib.IntN.{ℤ, pos}
-use lib.ListN.{length, getD, drop}
-use lib.Seq.{getD-take, getD-drop}
-use borrow.Author.Tests.{lt-ltb, le-ltb, eq-eqb, ne-eqb}
+use lib.ListN.{length, getD}
+use borrow.Author.Tests.{lt-ltb, le-ltb, eq-eqb, ne-eqb, ltb-true, ltb-false}
 use Rattle.base.specs.Pick.{pick}
 use Rattle.base.specs.Answers.{numberIn, leftBy}
+use Rattle.base.specs.Numbers.{bodyShort}
 use Rattle.fields.specs.Header.{typeRead, codeOf, typed, headerOf}
 use Rattle.fields.specs.Meta.{upOf, downOf}
 use Rattle.fields.specs.declared.header.PayloadType.{PayloadType}
@@ -43,7 +43,7 @@ use Rattle.packets.specs.declared.any.PacketRead.the-variants.{Packet as Packet
 use Rattle.flat.specs.Flat.{placeOf, flatOfPayload, flatOf, numbersOf, numbersIn, rssiIn, snrIn}
 use Rattle.flat.specs.declared.Flat.{Flat}
 use Rattle.trips.proofs.Which.{body-length}
-use Rattle.numbers.specs.Numbers.{upFlat, downFlat, stampedFlat, loraFlat, hopsIn, micIn, upIn, downIn, stampedIn}
+use Rattle.numbers.specs.Numbers.{upFlat, downFlat, stampedFlat, loraFlat, hopsIn, micIn, upIn, downIn, stampedIn, unlessShort}
 
 -- no bytes behind the relay id, or a sealed run
 pub sealed-none : (n : ℕ) → n ≡ 0 → bodyOf 9 n ≡ Empty
@@ -66,10 +66,29 @@ Left p xs r z n ys r' z' =
 pub kept : (p : PacketRead) (n : ℕ) (xs : List ℕ) (r z : ℤ) → p ≡ NoPacket n → Left p xs r z n xs r z
 kept p n xs r z e = rw e (refl, (refl, (refl, refl)))
 
-pub stored : (p : PacketRead) (q : Packet) (f : Flat) (xs : List ℕ) (r z : ℤ) (ys : List ℕ) (r' z' : ℤ) → p ≡ PacketIs q → flatOf q ≡ f
-    → ys ≡ numbersOf f → r' ≡ f .rssi → z' ≡ f .snr → Left p xs r z 0 ys r' z'
-stored p q f xs r z ys r' z' e g a b c =
-    rw e (refl, (a ∙ ap numbersOf (sym g), (b ∙ ap (λ (x : Flat). x .rssi) (sym g), c ∙ ap (λ (x : Flat). x .snr) (sym g))))
+stored : (p : PacketRead) (q : Packet) (f : Flat) (xs : List ℕ) (r z : ℤ) (n : ℕ) (ys : List ℕ) (r' z' : ℤ) → p ≡ PacketIs q → flatOf q ≡ f
+    → (n ≡ 0) × ((ys ≡ numbersOf f) × ((r' ≡ f .rssi) × (z' ≡ f .snr))) → Left p xs r z n ys r' z'
+stored p q f xs r z n ys r' z' e g a =
+    rw e (
+      a .0,
+      (a .1 .0 ∙ ap numbersOf (sym g), (a .1 .1 .0 ∙ ap (λ (x : Flat). x .rssi) (sym g), a .1 .1 .1 ∙ ap (λ (x : Flat). x .snr) (sym g))),
+    )
+
+-- what a reader of a body, which gives f where the body is long enough, answers and leaves
+abbrev pub Read : ℕ → List ℕ → Flat → List ℕ → ℤ → ℤ → ℕ → List ℕ → ℤ → ℤ → Type 0
+Read least b f xs r z n ys r' z' =
+    (n ≡ unlessShort least b bodyShort 0)
+    × ((ys ≡ unlessShort least b xs (numbersOf f)) × ((r' ≡ unlessShort least b r (f .rssi)) × (z' ≡ unlessShort least b z (f .snr))))
+
+by-length : (p : PacketRead) (q : Packet) (f : Flat) (xs : List ℕ) (r z : ℤ) (n : ℕ) (ys : List ℕ) (r' z' : ℤ) (least : ℕ) (b : List ℕ)
+    → (length b < least → p ≡ NoPacket 4) → (least ≤ length b → p ≡ PacketIs q) → flatOf q ≡ f → Read least b f xs r z n ys r' z'
+    → Left p xs r z n ys r' z'
+by-length p q f xs r z n ys r' z' least b short read g = by (ltb (length b) least) refl where
+  by : (t : Bool) → ltb (length b) least ≡ t
+      → (n ≡ pick t bodyShort 0) × ((ys ≡ pick t xs (numbersOf f)) × ((r' ≡ pick t r (f .rssi)) × (z' ≡ pick t z (f .snr))))
+      → Left p xs r z n ys r' z'
+  by true w a = rw (short (ltb-true _ _ w)) a
+  by false w a = stored p q f xs r z n ys r' z' (read (ltb-false _ _ w)) g a
 
 module _ (s : List ℕ) where
   -- ---- before the type
@@ -120,127 +139,64 @@ pub lora-left : (s : List ℕ) → (length s ≡ 0 → ⊥) → length s ≤ 819
     → (xs : List ℕ) (r z : ℤ) (ys : List ℕ) (r' z' : ℤ) → ys ≡ numbersOf (loraFlat (length s)) → r' ≡ pos 0 → z' ≡ pos 0
     → Left (packetOf s) xs r z 0 ys r' z'
 unfolding flatOf
-lora-left s e l m xs r z ys r' z' = stored (packetOf s) _ (loraFlat (length s)) xs r z ys r' z' (lora s e l m) refl
+lora-left s e l m xs r z ys r' z' a b c = stored (packetOf s) _ (loraFlat (length s)) xs r z 0 ys r' z' (lora s e l m) refl (refl, (a, (b, c)))
 
 -- ---- the body of each type
 
 abbrev pub upPayload : List ℕ → UplinkPayload
-upPayload s =
+upPayload b =
     record {
-      metadata = upOf (getD s 1 0 ∷ getD s 2 0 ∷ getD s 3 0 ∷ getD s 4 0 ∷ getD s 5 0 ∷ []);
-      «relay_id» = fourAt s 6;
-      «phy_payload» = record { start = 10; len = length s - 14 };
+      metadata = upOf (getD b 0 0 ∷ getD b 1 0 ∷ getD b 2 0 ∷ getD b 3 0 ∷ getD b 4 0 ∷ []);
+      «relay_id» = fourAt b 5;
+      «phy_payload» = record { start = 10; len = length b - 9 };
     }
 
 abbrev pub downPayload : List ℕ → DownlinkPayload
-downPayload s =
+downPayload b =
     record {
-      metadata = downOf (getD s 1 0 ∷ getD s 2 0 ∷ getD s 3 0 ∷ getD s 4 0 ∷ getD s 5 0 ∷ getD s 6 0 ∷ []);
-      «relay_id» = fourAt s 7;
-      «phy_payload» = record { start = 11; len = length s - 15 };
+      metadata = downOf (getD b 0 0 ∷ getD b 1 0 ∷ getD b 2 0 ∷ getD b 3 0 ∷ getD b 4 0 ∷ getD b 5 0 ∷ []);
+      «relay_id» = fourAt b 6;
+      «phy_payload» = record { start = 11; len = length b - 10 };
     }
 
 abbrev pub eventPayload : List ℕ → EventPayload
-eventPayload s = record { timestamp = fourAt s 1; «relay_id» = fourAt s 5; events = bodyOf 9 (length s - 13) }
+eventPayload b = record { timestamp = fourAt b 0; «relay_id» = fourAt b 4; events = bodyOf 9 (length b - 8) }
 
 abbrev pub commandPayload : List ℕ → CommandPayload
-commandPayload s = record { timestamp = fourAt s 1; «relay_id» = fourAt s 5; commands = bodyOf 9 (length s - 13) }
+commandPayload b = record { timestamp = fourAt b 0; «relay_id» = fourAt b 4; commands = bodyOf 9 (length b - 8) }
 
-module _ (s b : List ℕ) (n : length b + 5 ≡ length s) (l : length s ≤ 8192) where
-  no-long : ltb 8187 (length b) ≡ false
-  no-long = le-ltb 8187 (length b) (omega arith)
-
-  up-short : length s < 14 → payloadAt Uplink b ≡ NoPayload 4
+module _ (b : List ℕ) (l : length b ≤ 8187) where
+  up-short : length b < 9 → payloadAt Uplink b ≡ NoPayload 4
   unfolding payloadAt uplinkAt
-  up-short k = simp (no-long, lt-ltb (length b) 9 (omega arith))
+  up-short k = simp (le-ltb 8187 (length b) l, lt-ltb (length b) 9 k)
 
-  down-short : length s < 15 → payloadAt Downlink b ≡ NoPayload 4
+  down-short : length b < 10 → payloadAt Downlink b ≡ NoPayload 4
   unfolding payloadAt downlinkAt
-  down-short k = simp (no-long, lt-ltb (length b) 10 (omega arith))
+  down-short k = simp (le-ltb 8187 (length b) l, lt-ltb (length b) 10 k)
 
-  event-short : length s < 13 → payloadAt Event b ≡ NoPayload 4
+  event-short : length b < 8 → payloadAt Event b ≡ NoPayload 4
   unfolding payloadAt stampedAt eventAt
-  event-short k = simp (no-long, lt-ltb (length b) 8 (omega arith))
+  event-short k = simp (le-ltb 8187 (length b) l, lt-ltb (length b) 8 k)
 
-  command-short : length s < 13 → payloadAt Command b ≡ NoPayload 4
+  command-short : length b < 8 → payloadAt Command b ≡ NoPayload 4
   unfolding payloadAt stampedAt commandAt
-  command-short k = simp (no-long, lt-ltb (length b) 8 (omega arith))
+  command-short k = simp (le-ltb 8187 (length b) l, lt-ltb (length b) 8 k)
 
-  module _ (e : (i : ℕ) → i < length b → getD b i 0 ≡ getD s (1 + i) 0) where
-    up-body : 14 ≤ length s → payloadAt Uplink b ≡ PayloadIs (AnUplink (upPayload s))
-    unfolding payloadAt uplinkAt
-    up-body h =
-        let z : length b - 9 ≡ length s - 14 = omega arith in
-        simp (
-          no-long,
-          le-ltb (length b) 9 (omega arith),
-          e 0 (omega arith),
-          e 1 (omega arith),
-          e 2 (omega arith),
-          e 3 (omega arith),
-          e 4 (omega arith),
-          e 5 (omega arith),
-          e 6 (omega arith),
-          e 7 (omega arith),
-          e 8 (omega arith),
-          z,
-        )
+  up-body : 9 ≤ length b → payloadAt Uplink b ≡ PayloadIs (AnUplink (upPayload b))
+  unfolding payloadAt uplinkAt
+  up-body k = simp (le-ltb 8187 (length b) l, le-ltb (length b) 9 k)
 
-    down-body : 15 ≤ length s → payloadAt Downlink b ≡ PayloadIs (ADownlink (downPayload s))
-    unfolding payloadAt downlinkAt
-    down-body h =
-        let z : length b - 10 ≡ length s - 15 = omega arith in
-        simp (
-          no-long,
-          le-ltb (length b) 10 (omega arith),
-          e 0 (omega arith),
-          e 1 (omega arith),
-          e 2 (omega arith),
-          e 3 (omega arith),
-          e 4 (omega arith),
-          e 5 (omega arith),
-          e 6 (omega arith),
-          e 7 (omega arith),
-          e 8 (omega arith),
-          e 9 (omega arith),
-          z,
-        )
+  down-body : 10 ≤ length b → payloadAt Downlink b ≡ PayloadIs (ADownlink (downPayload b))
+  unfolding payloadAt downlinkAt
+  down-body k = simp (le-ltb 8187 (length b) l, le-ltb (length b) 10 k)
 
-    event-body : 13 ≤ length s → payloadAt Event b ≡ PayloadIs (AnEvent (eventPayload s))
-    unfolding payloadAt stampedAt eventAt
-    event-body h =
-        let z : length b - 8 ≡ length s - 13 = omega arith in
-        simp (
-          no-long,
-          le-ltb (length b) 8 (omega arith),
-          e 0 (omega arith),
-          e 1 (omega arith),
-          e 2 (omega arith),
-          e 3 (omega arith),
-          e 4 (omega arith),
-          e 5 (omega arith),
-          e 6 (omega arith),
-          e 7 (omega arith),
-          z,
-        )
+  event-body : 8 ≤ length b → payloadAt Event b ≡ PayloadIs (AnEvent (eventPayload b))
+  unfolding payloadAt stampedAt eventAt
+  event-body k = simp (le-ltb 8187 (length b) l, le-ltb (length b) 8 k)
 
-    command-body : 13 ≤ length s → payloadAt Command b ≡ PayloadIs (ACommand (commandPayload s))
-    unfolding payloadAt stampedAt commandAt
-    command-body h =
-        let z : length b - 8 ≡ length s - 13 = omega arith in
-        simp (
-          no-long,
-          le-ltb (length b) 8 (omega arith),
-          e 0 (omega arith),
-          e 1 (omega arith),
-          e 2 (omega arith),
-          e 3 (omega arith),
-          e 4 (omega arith),
-          e 5 (omega arith),
-          e 6 (omega arith),
-          e 7 (omega arith),
-          z,
-        )
+  command-body : 8 ≤ length b → payloadAt Command b ≡ PayloadIs (ACommand (commandPayload b))
+  unfolding payloadAt stampedAt commandAt
+  command-body k = simp (le-ltb 8187 (length b) l, le-ltb (length b) 8 k)
 
 -- ---- what is left of each frame
 
@@ -248,17 +204,11 @@ module _ (s : List ℕ) (e : length s ≡ 0 → ⊥) (l : length s ≤ 8192) (m 
   abbrev kind : ℕ
   kind = getD s 0 0 / 8 % 4
 
-  behind : length (bodyIn s) + 5 ≡ length s
-  behind = let n = body-length s h in omega arith
+  abbrev body : List ℕ
+  body = bodyIn s
 
-  at : (i : ℕ) → i < length (bodyIn s) → getD (bodyIn s) i 0 ≡ getD s (1 + i) 0
-  at i k = let n = body-length s h in getD-take (length s - 4 - 1) (drop 1 s) i 0 (omega arith) ∙ getD-drop 1 s i 0
-
-  pub up-refused : kind ≡ 0 → length s < 14 → packetOf s ≡ NoPacket 4
-  up-refused k n = refused s e l m h Uplink k (up-short s (bodyIn s) behind l n)
-
-  pub down-refused : kind ≡ 1 → length s < 15 → packetOf s ≡ NoPacket 4
-  down-refused k n = refused s e l m h Downlink k (down-short s (bodyIn s) behind l n)
+  fits : length body ≤ 8187
+  fits = let n = body-length s h in omega arith
 
   -- an event or a command
   either : {A : Type 0} → (kind ≡ 0 → ⊥) → (kind ≡ 1 → ⊥) → (kind ≡ 2 → A) → (kind ≡ 3 → A) → A
@@ -272,61 +222,53 @@ module _ (s : List ℕ) (e : length s ≡ 0 → ⊥) (l : length s ≤ 8192) (m 
     by Event q = f q
     by Command q = g q
 
-  pub stamped-refused : (kind ≡ 0 → ⊥) → (kind ≡ 1 → ⊥) → length s < 13 → packetOf s ≡ NoPacket 4
-  stamped-refused u d n =
-      either u d (λ q. refused s e l m h Event q (event-short s (bodyIn s) behind l n))
-      (λ q. refused s e l m h Command q (command-short s (bodyIn s) behind l n))
-
-  module _ (xs : List ℕ) (r z : ℤ) (ys : List ℕ) (r' z' : ℤ) where
-    pub up-left : kind ≡ 0 → 14 ≤ length s → ys ≡ numbersOf (upIn s) → r' ≡ upIn s .rssi → z' ≡ upIn s .snr
-        → Left (packetOf s) xs r z 0 ys r' z'
+  module _ (mic : ℕ) (x : mic ≡ micIn s) (xs : List ℕ) (r z : ℤ) (n : ℕ) (ys : List ℕ) (r' z' : ℤ) where
+    pub up-left : kind ≡ 0 → Read 9 body (upIn (hopsIn s) mic body) xs r z n ys r' z' → Left (packetOf s) xs r z n ys r' z'
     unfolding flatOf flatOfPayload
-    up-left k n = stored (packetOf s) _ (upIn s) xs r z ys r' z'
-        (carried s e l m h Uplink k _ (up-body s (bodyIn s) behind l at n)) refl
+    up-left k a =
+        by-length (packetOf s) _ (upIn (hopsIn s) mic body) xs r z n ys r' z' 9 body
+        (λ w. refused s e l m h Uplink k (up-short body fits w))
+        (λ w. carried s e l m h Uplink k _ (up-body body fits w)) (ap (λ (y : ℕ). upIn (hopsIn s) y body) (sym x)) a
 
-    pub down-left : kind ≡ 1 → 15 ≤ length s → ys ≡ numbersOf (downIn s) → r' ≡ pos 0 → z' ≡ pos 0
-        → Left (packetOf s) xs r z 0 ys r' z'
+    pub down-left : kind ≡ 1 → Read 10 body (downIn (hopsIn s) mic body) xs r z n ys r' z' → Left (packetOf s) xs r z n ys r' z'
     unfolding flatOf flatOfPayload
-    down-left k n = stored (packetOf s) _ (downIn s) xs r z ys r' z'
-        (carried s e l m h Downlink k _ (down-body s (bodyIn s) behind l at n)) refl
+    down-left k a =
+        by-length (packetOf s) _ (downIn (hopsIn s) mic body) xs r z n ys r' z' 10 body
+        (λ w. refused s e l m h Downlink k (down-short body fits w))
+        (λ w. carried s e l m h Downlink k _ (down-body body fits w)) (ap (λ (y : ℕ). downIn (hopsIn s) y body) (sym x)) a
 
-    event-left : kind ≡ 2 → 13 ≤ length s → ys ≡ numbersOf (stampedIn kind s) → r' ≡ pos 0 → z' ≡ pos 0
-        → Left (packetOf s) xs r z 0 ys r' z'
+    abbrev stampedBy : ℕ → ℕ → Flat
+    stampedBy t y = stampedIn t (hopsIn s) y body
+
+    event-left : kind ≡ 2 → Read 8 body (stampedBy kind mic) xs r z n ys r' z' → Left (packetOf s) xs r z n ys r' z'
     unfolding flatOf flatOfPayload
-    event-left k n a =
-        stored (packetOf s) _ (stampedIn 2 s) xs r z ys r' z'
-        (carried s e l m h Event k _ (event-body s (bodyIn s) behind l at n)) refl
-        (a ∙ ap (λ (t : ℕ). numbersOf (stampedIn t s)) k)
+    event-left k a =
+        by-length (packetOf s) _ (stampedBy kind mic) xs r z n ys r' z' 8 body
+        (λ w. refused s e l m h Event k (event-short body fits w))
+        (λ w. carried s e l m h Event k _ (event-body body fits w)) (ap₂ stampedBy (sym k) (sym x)) a
 
-    command-left : kind ≡ 3 → 13 ≤ length s → ys ≡ numbersOf (stampedIn kind s) → r' ≡ pos 0 → z' ≡ pos 0
-        → Left (packetOf s) xs r z 0 ys r' z'
+    command-left : kind ≡ 3 → Read 8 body (stampedBy kind mic) xs r z n ys r' z' → Left (packetOf s) xs r z n ys r' z'
     unfolding flatOf flatOfPayload
-    command-left k n a =
-        stored (packetOf s) _ (stampedIn 3 s) xs r z ys r' z'
-        (carried s e l m h Command k _ (command-body s (bodyIn s) behind l at n)) refl
-        (a ∙ ap (λ (t : ℕ). numbersOf (stampedIn t s)) k)
+    command-left k a =
+        by-length (packetOf s) _ (stampedBy kind mic) xs r z n ys r' z' 8 body
+        (λ w. refused s e l m h Command k (command-short body fits w))
+        (λ w. carried s e l m h Command k _ (command-body body fits w)) (ap₂ stampedBy (sym k) (sym x)) a
 
-    pub stamped-left : (kind ≡ 0 → ⊥) → (kind ≡ 1 → ⊥) → 13 ≤ length s → ys ≡ numbersOf (stampedIn kind s) → r' ≡ pos 0 → z' ≡ pos 0
-        → Left (packetOf s) xs r z 0 ys r' z'
-    stamped-left u d n a b c = either u d (λ q. event-left q n a b c) (λ q. command-left q n a b c)
+    pub stamped-left : (kind ≡ 0 → ⊥) → (kind ≡ 1 → ⊥) → Read 8 body (stampedBy kind mic) xs r z n ys r' z'
+        → Left (packetOf s) xs r z n ys r' z'
+    stamped-left u d a = either u d (λ q. event-left q a) (λ q. command-left q a)
 
--- ---- the calls that take a frame's values from it, and the frame
+-- ---- the calls that take a body's values from it, and the body
 
-module _ (s : List ℕ) (ys : List ℕ) (mic : ℕ) (x : mic ≡ micIn s) where
-  pub up-same : (m : UplinkMetadata) (relay : ℕ) → ys ≡ numbersOf (upFlat (hopsIn s) mic m relay (length s - 14)) → m ≡ upPayload s .metadata
-      → relay ≡ fourAt s 6 → ys ≡ numbersOf (upIn s)
-  up-same m relay a p q =
-      a ∙ ap (λ (y : ℕ). numbersOf (upFlat (hopsIn s) y m relay (length s - 14))) x
-      ∙ ap₂ (λ (y : UplinkMetadata) (w : ℕ). numbersOf (upFlat (hopsIn s) (micIn s) y w (length s - 14))) p q
+module _ (hops mic : ℕ) (b : List ℕ) (ys : List ℕ) where
+  pub up-same : (m : UplinkMetadata) (relay : ℕ) → ys ≡ numbersOf (upFlat hops mic m relay (length b - 9)) → m ≡ upPayload b .metadata
+      → relay ≡ fourAt b 5 → ys ≡ numbersOf (upIn hops mic b)
+  up-same m relay a p q = a ∙ ap₂ (λ (y : UplinkMetadata) (w : ℕ). numbersOf (upFlat hops mic y w (length b - 9))) p q
 
-  pub down-same : (m : DownlinkMetadata) (relay : ℕ) → ys ≡ numbersOf (downFlat (hopsIn s) mic m relay (length s - 15))
-      → m ≡ downPayload s .metadata → relay ≡ fourAt s 7 → ys ≡ numbersOf (downIn s)
-  down-same m relay a p q =
-      a ∙ ap (λ (y : ℕ). numbersOf (downFlat (hopsIn s) y m relay (length s - 15))) x
-      ∙ ap₂ (λ (y : DownlinkMetadata) (w : ℕ). numbersOf (downFlat (hopsIn s) (micIn s) y w (length s - 15))) p q
+  pub down-same : (m : DownlinkMetadata) (relay : ℕ) → ys ≡ numbersOf (downFlat hops mic m relay (length b - 10)) → m ≡ downPayload b .metadata
+      → relay ≡ fourAt b 6 → ys ≡ numbersOf (downIn hops mic b)
+  down-same m relay a p q = a ∙ ap₂ (λ (y : DownlinkMetadata) (w : ℕ). numbersOf (downFlat hops mic y w (length b - 10))) p q
 
-  pub stamped-same : (k time relay : ℕ) → ys ≡ numbersOf (stampedFlat k (hopsIn s) mic time relay (length s - 13)) → time ≡ fourAt s 1
-      → relay ≡ fourAt s 5 → ys ≡ numbersOf (stampedIn k s)
-  stamped-same k time relay a p q =
-      a ∙ ap (λ (y : ℕ). numbersOf (stampedFlat k (hopsIn s) y time relay (length s - 13))) x
-      ∙ ap₂ (λ (y : ℕ) (w : ℕ). numbersOf (stampedFlat k (hopsIn s) (micIn s) y w (length s - 13))) p q
+  pub stamped-same : (k time relay : ℕ) → ys ≡ numbersOf (stampedFlat k hops mic time relay (length b - 8)) → time ≡ fourAt b 0
+      → relay ≡ fourAt b 4 → ys ≡ numbersOf (stampedIn k hops mic b)
+  stamped-same k time relay a p q = a ∙ ap₂ (λ (y : ℕ) (w : ℕ). numbersOf (stampedFlat k hops mic y w (length b - 8))) p q

@@ -1,8 +1,10 @@
--- What each type's frame gives, as the struct of its numbers: by the values that are taken from it, and by the frame. Assumes nothing.
+-- What each type's frame gives, as the struct of its numbers: by the values that are taken from it, and by its body. Assumes nothing.
 use Prim.Native.Nat.{ℕ, _+_, _-_, _%_}
 use mathlib.Core.Bool.{true}
 use mathlib.Core.List.{List, [], _∷_}
+use lib.Dec.{ltb}
 use lib.ListN.{length, getD}
+use Rattle.base.specs.Pick.{pick}
 use Rattle.fields.specs.Meta.{upOf, downOf}
 use Rattle.fields.specs.declared.header.PayloadType.the-variants.{Uplink, Downlink}
 use Rattle.fields.specs.declared.meta.UplinkMetadata.{UplinkMetadata}
@@ -38,7 +40,7 @@ sealedStart len = placeOf (bodyOf 9 len) .start
 abbrev pub loraFlat : ℕ → Flat
 loraFlat len = flatOfLora (record { start = 0; len = len })
 
--- ---- by the frame
+-- ---- by hop count, MIC and the body
 
 abbrev pub hopsIn : List ℕ → ℕ
 hopsIn s = getD s 0 0 % 8 + 1
@@ -46,14 +48,17 @@ hopsIn s = getD s 0 0 % 8 + 1
 abbrev pub micIn : List ℕ → ℕ
 micIn s = fourAt s (length s - 4)
 
-abbrev pub upIn : List ℕ → Flat
-upIn s =
-    upFlat (hopsIn s) (micIn s) (upOf (getD s 1 0 ∷ getD s 2 0 ∷ getD s 3 0 ∷ getD s 4 0 ∷ getD s 5 0 ∷ [])) (fourAt s 6) (length s - 14)
+abbrev pub upIn : ℕ → ℕ → List ℕ → Flat
+upIn hops mic b =
+    upFlat hops mic (upOf (getD b 0 0 ∷ getD b 1 0 ∷ getD b 2 0 ∷ getD b 3 0 ∷ getD b 4 0 ∷ [])) (fourAt b 5) (length b - 9)
 
-abbrev pub downIn : List ℕ → Flat
-downIn s =
-    downFlat (hopsIn s) (micIn s) (downOf (getD s 1 0 ∷ getD s 2 0 ∷ getD s 3 0 ∷ getD s 4 0 ∷ getD s 5 0 ∷ getD s 6 0 ∷ [])) (fourAt s 7)
-    (length s - 15)
+abbrev pub downIn : ℕ → ℕ → List ℕ → Flat
+downIn hops mic b =
+    downFlat hops mic (downOf (getD b 0 0 ∷ getD b 1 0 ∷ getD b 2 0 ∷ getD b 3 0 ∷ getD b 4 0 ∷ getD b 5 0 ∷ [])) (fourAt b 6) (length b - 10)
 
-abbrev pub stampedIn : ℕ → List ℕ → Flat
-stampedIn kind s = stampedFlat kind (hopsIn s) (micIn s) (fourAt s 1) (fourAt s 5) (length s - 13)
+abbrev pub stampedIn : ℕ → ℕ → ℕ → List ℕ → Flat
+stampedIn kind hops mic b = stampedFlat kind hops mic (fourAt b 0) (fourAt b 4) (length b - 8)
+
+-- what a reader of a body answers or leaves: one thing where the body is shorter than its least, another where it is read
+abbrev pub unlessShort : {A : Type 0} → ℕ → List ℕ → A → A → A
+unlessShort least b short read = pick (ltb (length b) least) short read

@@ -3,10 +3,11 @@ ghost use Prim.Native.Nat.{_-_, _≤_};
 ghost use mathlib.Core.Path.{_≡_};
 ghost use lib.ListN.{length};
 ghost use Rattle.base.specs.Answers.{numberIn, leftBy};
+ghost use Rattle.base.specs.Numbers.{bodyShort};
 ghost use Rattle.payloads.specs.Read.{fourAt};
 ghost use Rattle.packets.specs.Read.{packetSays, packetOf};
 ghost use Rattle.flat.specs.Flat.{numbersOf, numbersIn, rssiIn, snrIn};
-ghost use Rattle.numbers.specs.Numbers.{upFlat, downFlat, stampedFlat, loraFlat, upIn, downIn, stampedIn, sealedCode, sealedStart};
+ghost use Rattle.numbers.specs.Numbers.{upFlat, downFlat, stampedFlat, loraFlat, upIn, downIn, stampedIn, sealedCode, sealedStart, unlessShort};
 use base::Limit;
 use base::Refusal;
 use bodies::Body;
@@ -37,8 +38,8 @@ fn up_numbers(hops: u8, mic: u32, m: UplinkMetadata, relay: u32, len: usize) -> 
     ensures { λ r. ⌜ r ≡ numbersOf (upFlat hops mic m relay len) ⌝ }
 {
     [
-        0,
-        0,
+        PayloadType::UPLINK as u64,
+        PayloadType::UPLINK as u64,
         from_u8(hops),
         1,
         from_u32(mic),
@@ -60,8 +61,8 @@ fn down_numbers(hops: u8, mic: u32, m: DownlinkMetadata, relay: u32, len: usize)
     ensures { λ r. ⌜ r ≡ numbersOf (downFlat hops mic m relay len) ⌝ }
 {
     [
-        1,
-        1,
+        PayloadType::DOWNLINK as u64,
+        PayloadType::DOWNLINK as u64,
         from_u8(hops),
         1,
         from_u32(mic),
@@ -127,65 +128,97 @@ fn lora_numbers(len: usize) -> [u64; 16]
     [4, 0, 0, 0, 0, 0, 0, 0, 0, 0, 0, 0, 0, 0, 0, len as u64]
 }
 
-// ---- a frame of each type, once it is long enough
+// ---- a body, by the reader of its type: 4 with nothing changed, or 0
 
-fn uplink(frame: &[u8], numbers: &mut [u64; 16], rssi: &mut i16, snr: &mut i8)
-    requires { ⌜ 14 ≤ length (now frame) ⌝ }
-    ensures numbers { λ _. ⌜ now (numbers .exit) ≡ numbersOf (upIn (now (frame .entry))) ⌝ }
-    ensures rssi { λ _. ⌜ now (rssi .exit) ≡ upIn (now (frame .entry)) .rssi ⌝ }
-    ensures snr { λ _. ⌜ now (snr .exit) ≡ upIn (now (frame .entry)) .snr ⌝ }
+fn uplink(
+    hops: u8,
+    mic: u32,
+    body: &[u8],
+    numbers: &mut [u64; 16],
+    rssi: &mut i16,
+    snr: &mut i8,
+) -> u8
+    ensures answer { λ r. ⌜ r ≡ unlessShort 9 (now (body .entry)) bodyShort 0 ⌝ }
+    ensures numbers { λ _. ⌜ now (numbers .exit) ≡ unlessShort 9 (now (body .entry)) (now (numbers .entry)) (numbersOf (upIn hops mic (now (body .entry)))) ⌝ }
+    ensures rssi { λ _. ⌜ now (rssi .exit) ≡ unlessShort 9 (now (body .entry)) (now (rssi .entry)) (upIn hops mic (now (body .entry)) .rssi) ⌝ }
+    ensures snr { λ _. ⌜ now (snr .exit) ≡ unlessShort 9 (now (body .entry)) (now (snr .entry)) (upIn hops mic (now (body .entry)) .snr) ⌝ }
 {
-    let n = frame.len();
-    let m = UplinkMetadata::from_bytes([frame[1], frame[2], frame[3], frame[4], frame[5]]);
+    if body.len() < UplinkPayload::LEAST {
+        return Refusal::BODY_SHORT;
+    }
+    let m = UplinkMetadata::from_bytes([body[0], body[1], body[2], body[3], body[4]]);
     let strength = m.rssi;
     let ratio = m.snr;
     *numbers = up_numbers(
-        frame[0] % 8 + 1,
-        four(frame, n - 4),
+        hops,
+        mic,
         m,
-        four(frame, 6),
-        n - 14,
+        four(body, 5),
+        body.len() - UplinkPayload::LEAST,
     );
     *rssi = strength;
     *snr = ratio;
+    0
 }
 
-fn downlink(frame: &[u8], numbers: &mut [u64; 16])
-    requires { ⌜ 15 ≤ length (now frame) ⌝ }
-    ensures { λ _. ⌜ now (numbers .exit) ≡ numbersOf (downIn (now (frame .entry))) ⌝ }
+fn downlink(
+    hops: u8,
+    mic: u32,
+    body: &[u8],
+    numbers: &mut [u64; 16],
+    rssi: &mut i16,
+    snr: &mut i8,
+) -> u8
+    ensures answer { λ r. ⌜ r ≡ unlessShort 10 (now (body .entry)) bodyShort 0 ⌝ }
+    ensures numbers { λ _. ⌜ now (numbers .exit) ≡ unlessShort 10 (now (body .entry)) (now (numbers .entry)) (numbersOf (downIn hops mic (now (body .entry)))) ⌝ }
+    ensures rssi { λ _. ⌜ now (rssi .exit) ≡ unlessShort 10 (now (body .entry)) (now (rssi .entry)) (downIn hops mic (now (body .entry)) .rssi) ⌝ }
+    ensures snr { λ _. ⌜ now (snr .exit) ≡ unlessShort 10 (now (body .entry)) (now (snr .entry)) (downIn hops mic (now (body .entry)) .snr) ⌝ }
 {
-    let n = frame.len();
-    let m = DownlinkMetadata::from_bytes([
-        frame[1],
-        frame[2],
-        frame[3],
-        frame[4],
-        frame[5],
-        frame[6],
-    ]);
+    if body.len() < DownlinkPayload::LEAST {
+        return Refusal::BODY_SHORT;
+    }
+    let m = DownlinkMetadata::from_bytes([body[0], body[1], body[2], body[3], body[4], body[5]]);
     *numbers = down_numbers(
-        frame[0] % 8 + 1,
-        four(frame, n - 4),
+        hops,
+        mic,
         m,
-        four(frame, 7),
-        n - 15,
+        four(body, 6),
+        body.len() - DownlinkPayload::LEAST,
     );
+    *rssi = 0;
+    *snr = 0;
+    0
 }
 
 // An event or a command.
-fn stamped(kind: u8, frame: &[u8], numbers: &mut [u64; 16])
-    requires { ⌜ 13 ≤ length (now frame) ⌝ }
-    ensures { λ _. ⌜ now (numbers .exit) ≡ numbersOf (stampedIn kind (now (frame .entry))) ⌝ }
+fn stamped(
+    kind: u8,
+    hops: u8,
+    mic: u32,
+    body: &[u8],
+    numbers: &mut [u64; 16],
+    rssi: &mut i16,
+    snr: &mut i8,
+) -> u8
+    ensures answer { λ r. ⌜ r ≡ unlessShort 8 (now (body .entry)) bodyShort 0 ⌝ }
+    ensures numbers { λ _. ⌜ now (numbers .exit) ≡ unlessShort 8 (now (body .entry)) (now (numbers .entry)) (numbersOf (stampedIn kind hops mic (now (body .entry)))) ⌝ }
+    ensures rssi { λ _. ⌜ now (rssi .exit) ≡ unlessShort 8 (now (body .entry)) (now (rssi .entry)) (stampedIn kind hops mic (now (body .entry)) .rssi) ⌝ }
+    ensures snr { λ _. ⌜ now (snr .exit) ≡ unlessShort 8 (now (body .entry)) (now (snr .entry)) (stampedIn kind hops mic (now (body .entry)) .snr) ⌝ }
 {
-    let n = frame.len();
+    if body.len() < Body::LEAST {
+        return Refusal::BODY_SHORT;
+    }
     *numbers = stamped_numbers(
         kind,
-        frame[0] % 8 + 1,
-        four(frame, n - 4),
-        four(frame, 1),
-        four(frame, 5),
-        n - 13,
+        hops,
+        mic,
+        four(body, 0),
+        four(body, 4),
+        body.len() - Body::LEAST,
     );
+    *rssi = 0;
+    *snr = 0;
+    0
 }
 
 // 1, 5, 2, 4 with nothing changed, or 0.
@@ -213,27 +246,15 @@ pub fn read_numbers(frame: &[u8], numbers: &mut [u64; 16], rssi: &mut i16, snr: 
         return Refusal::FRAME_SHORT;
     }
     let kind = first / 8 % 4;
+    let hops = first % 8 + 1;
+    let end = n - 4;
+    let mic = four(frame, end);
+    let body = &frame[1..end];
     if kind == PayloadType::UPLINK {
-        if n < MeshPacket::LEAST + UplinkPayload::LEAST {
-            return Refusal::BODY_SHORT;
-        }
-        uplink(frame, numbers, rssi, snr);
-        return 0;
+        return uplink(hops, mic, body, numbers, rssi, snr);
     }
     if kind == PayloadType::DOWNLINK {
-        if n < MeshPacket::LEAST + DownlinkPayload::LEAST {
-            return Refusal::BODY_SHORT;
-        }
-        downlink(frame, numbers);
-        *rssi = 0;
-        *snr = 0;
-        return 0;
+        return downlink(hops, mic, body, numbers, rssi, snr);
     }
-    if n < MeshPacket::LEAST + Body::LEAST {
-        return Refusal::BODY_SHORT;
-    }
-    stamped(kind, frame, numbers);
-    *rssi = 0;
-    *snr = 0;
-    0
+    stamped(kind, hops, mic, body, numbers, rssi, snr)
 }

@@ -20,4 +20,4 @@ returns c =
     (ap₂ _∷_ (c .from-u83 .ensures) refl))))))))
 
 pub up-numbers-spec : {M : Type 1} → statement M
-up-numbers-spec = tie.close (tie.spec (λ c κs. search needs) (λ c κs. search needs) (λ c κs. search needs) (λ c κs. search needs) (λ c κs. search needs) (λ c κs. search needs) returns)
+up-numbers-spec = tie.close (tie.spec (λ c. search needs) (λ c. search needs) (λ c κs. search needs) (λ c κs. search needs) (λ c κs. search needs) (λ c κs. search needs) (λ c κs. search needs) (λ c κs. search needs) returns)
