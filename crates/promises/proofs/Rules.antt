@@ -33,8 +33,11 @@ use Rattle.fields.proofs.Laws.Path.{path-back, path-again}
 use Rattle.heartbeats.specs.Heartbeat.{pathsOf, beatRefusal, beatOf, entryRead, beatWire, beatSays, pathSays, noPath, FourByteIds}
 use Rattle.heartbeats.specs.declared.heartbeat.HeartbeatPayload.{HeartbeatPayload}
 use Rattle.heartbeats.proofs.Laws.{refused-entries, taken-entries, beat-back}
-use Rattle.items.specs.Items.{badBeat, itemAt, Turn}
-use Rattle.items.proofs.Laws.{turn}
+use Rattle.items.specs.Items.{badBeat, itemAt, Turn, walkedTo, noItem, itemSays, listedItems}
+use Rattle.items.proofs.Laws.{turn, walk-ends}
+use Rattle.kept.specs.Kept.{openBytes}
+use Rattle.composed.specs.Composed.{composedWire, lentBack}
+use Rattle.composed.proofs.Again.{written-back}
 use Rattle.packets.specs.Read.{meshOf, meshSays}
 use Rattle.trips.specs.Which.{leastFrame, meshNumber}
 use Rattle.cache.specs.Cache.{newOf}
@@ -187,6 +190,15 @@ derived-keys root = (refl, refl)
 -- the first of the payload's pieces from there, and where the next begins
 pub one-item-at-a-time : (ev : Bool) (s : List ℕ) (at : ℕ) → Turn ev s at (itemAt ev s at)
 one-item-at-a-time ev s at = turn ev s at (itemAt ev s at) refl
+
+-- whoever goes from each item to the place behind it comes to the end, after no more steps than the payload has bytes
+pub walk-by-items-ends : (ev : Bool) (s : List ℕ) → itemSays (itemAt ev s (walkedTo ev s (length s) 0)) ≡ value (noItem (length s))
+walk-by-items-ends ev s = ap itemSays (walk-ends ev s)
+
+-- the items that reading lists, composed again as they were read, are written as the open payload itself is: its kept items, the ignored
+-- bits cleared
+pub items-lent-back : (ev : Bool) (s : List ℕ) → Bytes s → composedWire ev (lentBack ev s) (length (listedItems ev s)) ≡ bytes (openBytes ev s)
+items-lent-back ev s h = written-back ev s h
 
 -- "Heartbeat value: 19, 20, 21"
 pub heartbeat-long : (v : List ℕ) (places : ℕ) → 255 < length v → beatSays (beatOf v places) ≡ number itemLong

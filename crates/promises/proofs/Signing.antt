@@ -2,21 +2,23 @@
 use Prim.Native.Nat.{ℕ}
 use native.Mathlib.Omega.{arith}
 use mathlib.Core.Bool.{Bool, true, false}
-use mathlib.Core.Path.{_≡_, refl, sym, _∙_}
+use mathlib.Core.Path.{_≡_, refl, sym, ap, _∙_}
 use mathlib.Core.List.{List, _++_}
 use lib.Dec.{ltb, eqb}
 use lib.ListN.{length}
 use Rattle.base.specs.Pick.{pick}
-use Rattle.base.specs.Numbers.{micMissing}
-use Rattle.base.specs.Answers.{value, number, Frame, bytes, refused, frameNumber, numberIn}
+use borrow.Author.Tests.{eq-eqb, ne-eqb, eqb-true, eqb-false}
+use Rattle.base.specs.Numbers.{micMissing, typeLarge}
+use Rattle.base.specs.Answers.{value, number, Frame, bytes, refused, frameNumber, numberIn, answerOf, writtenSays}
 use Rattle.wire.specs.Number.{beBytes}
 use Rattle.bodies.specs.Body.{Lent}
 use Rattle.payloads.specs.Write.{withMic}
 use Rattle.packets.specs.Read.{meshSays}
-use Rattle.packets.specs.Write.{messageOf, meshFrame}
+use Rattle.packets.specs.Write.{kindsIn, messageOf, meshFrame}
+use Rattle.packets.proofs.Laws.{message-strange, strange-29}
 use Rattle.packets.specs.declared.mesh.MeshPacket.{MeshPacket}
 use Rattle.packets.specs.declared.mesh.MeshRead.the-variants.{Mesh}
-use Rattle.mic.specs.declared.Validated.the-variants.{Valid, Invalid}
+use Rattle.mic.specs.declared.Validated.the-variants.{Valid, Invalid, Refused as NotValidated}
 use Rattle.promises.proofs.Said.{mesh-said}
 use Rattle.mic.specs.Mic.{micOf, fitting, signedOf, carryingMic, signedBy, setMic, comparedBy, validateMic, validSays}
 
@@ -52,10 +54,19 @@ pub signing-refuses-as-writing : (E : List ℕ → List ℕ) (l : Lent) (p : Mes
 unfolding setMic signedOf meshFrame messageOf
 signing-refuses-as-writing E l p mic = signing-by E p (fitting (messageOf l p)) ∙ written-by (messageOf l p) mic
 
+-- before all else the kinds of composed items: 29 where they are written, signed or validated
+pub strange-kind-refused : (E : List ℕ → List ℕ) (l : Lent) (p : MeshPacket) (o : List ℕ) → (kindsIn l p ≡ 0 → ⊥)
+    → (writtenSays (answerOf (meshFrame l p) o) ≡ number typeLarge) × (meshSays (setMic E l p) ≡ number typeLarge) × (validSays (validateMic E l p) ≡ number typeLarge)
+unfolding meshFrame withMic answerOf setMic signedOf fitting validateMic
+strange-kind-refused E l p o h =
+    let k : kindsIn l p ≡ typeLarge = strange-29 _ _ (p .payload) h in
+    let m : messageOf l p ≡ refused typeLarge = message-strange l p (kindsIn l p) refl h ∙ ap refused k in
+    (rw m refl, rw m refl, simp (ne-eqb (kindsIn l p) 0 h) (ap number k))
+
 -- "validating: 27, then as signing"
-pub validating-wants-a-mic : (E : List ℕ → List ℕ) (l : Lent) (p : MeshPacket) → p .«has_mic» ≡ false → validSays (validateMic E l p) ≡ number micMissing
+pub validating-wants-a-mic : (E : List ℕ → List ℕ) (l : Lent) (p : MeshPacket) → kindsIn l p ≡ 0 → p .«has_mic» ≡ false → validSays (validateMic E l p) ≡ number micMissing
 unfolding validateMic
-validating-wants-a-mic E l p e = simp e
+validating-wants-a-mic E l p k e = simp (eq-eqb (kindsIn l p) 0 k, e)
 
 validating-by : (E : List ℕ → List ℕ) (m : ℕ) (p : MeshPacket) (f : Frame) → numberIn (validSays (comparedBy E m f)) ≡ numberIn (meshSays (signedBy E p f))
 validating-by E m p (refused n) = refl
@@ -65,17 +76,37 @@ validating-by E m p (bytes w) = by (eqb m (micOf E w)) where
   by false = refl
 
 pub validating-refuses-as-signing : (E : List ℕ → List ℕ) (l : Lent) (p : MeshPacket) → p .«has_mic» ≡ true → numberIn (validSays (validateMic E l p)) ≡ numberIn (meshSays (setMic E l p))
-unfolding validateMic setMic
-validating-refuses-as-signing E l p e = simp e (validating-by E (p .mic) p (signedOf l p))
+unfolding validateMic setMic signedOf fitting
+validating-refuses-as-signing E l p e = by (eqb (kindsIn l p) 0) refl
+  where
+    by : (t : Bool) → eqb (kindsIn l p) 0 ≡ t
+        → numberIn (validSays (pick t (pick (p .«has_mic») (comparedBy E (p .mic) (fitting (messageOf l p))) (NotValidated micMissing)) (NotValidated (kindsIn l p))))
+        ≡ numberIn (meshSays (signedBy E p (fitting (messageOf l p))))
+    by true q = simp e (validating-by E (p .mic) p (fitting (messageOf l p)))
+    by false q = rw (message-strange l p (kindsIn l p) refl (eqb-false _ _ q)) refl
 
 -- what is signed is valid under the same key, and with any other MIC it is not
 module _ (E : List ℕ → List ℕ) (l : Lent) (p : MeshPacket) where
+  same-message : (m : ℕ) → messageOf l (carryingMic p m) ≡ messageOf l p
+  unfolding messageOf
+  same-message m = refl
+
+  known : (w : List ℕ) → fitting (messageOf l p) ≡ bytes w → kindsIn l p ≡ 0
+  unfolding fitting
+  known w g = by (eqb (kindsIn l p) 0) refl
+    where
+      by : (t : Bool) → eqb (kindsIn l p) 0 ≡ t → kindsIn l p ≡ 0
+      by true q = eqb-true _ _ q
+      by false q =
+          let y : refused (kindsIn l p) ≡ bytes w = sym (ap fitting (message-strange l p (kindsIn l p) refl (eqb-false _ _ q))) ∙ g in
+          let z : _≡_ {A = ℕ} 0 1 = cc in absurd (omega arith)
+
   valid-by : (m : ℕ) (f : Frame) → fitting (messageOf l p) ≡ f → (q : MeshPacket) → signedBy E p f ≡ Mesh q → (m′ : ℕ) → validSays (validateMic E l (carryingMic p m′)) ≡ value (eqb m′ (q .mic))
-  unfolding validateMic signedOf messageOf
+  unfolding validateMic signedOf
   valid-by m (refused n) g q e m′ = let z : _≡_ {A = ℕ} 0 1 = cc in absurd (omega arith)
   valid-by m (bytes w) g q e m′ =
       let y : carryingMic p (micOf E w) ≡ q = cc in
-      rw g (rw (← y) (by (eqb m′ (micOf E w))))
+      simp (eq-eqb (kindsIn l p) 0 (known w g)) (rw (same-message m′, g) (rw (← y) (by (eqb m′ (micOf E w)))))
     where
       by : (t : Bool) → validSays (pick t Valid Invalid) ≡ value t
       by true = refl
