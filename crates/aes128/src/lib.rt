@@ -16,7 +16,7 @@ use wire::put_all;
 use wire::read_hex;
 use wire::write_hex;
 
-pub struct Aes128Key([u8; 16]);
+pub struct Aes128Key([u8; Aes128Key::LENGTH]);
 
 // A key that was read, or the refusal, with the null key beside it.
 pub struct KeyRead {
@@ -25,7 +25,7 @@ pub struct KeyRead {
 }
 
 impl KeyRead {
-    fn accepted(bytes: [u8; 16]) -> KeyRead
+    fn accepted(bytes: [u8; Aes128Key::LENGTH]) -> KeyRead
         ensures { λ r. ⌜ r ≡ keyRead bytes ⌝ }
     {
         KeyRead {
@@ -39,7 +39,7 @@ impl KeyRead {
     {
         KeyRead {
             answer: Checked::Refused(number),
-            key: Aes128Key([0u8; 16]),
+            key: Aes128Key::NULL,
         }
     }
 }
@@ -50,7 +50,7 @@ impl Aes128Key {
 
     pub const TEXT_LENGTH: usize = 32;
 
-    pub const NULL: Aes128Key = Aes128Key([0; 16]);
+    pub const NULL: Aes128Key = Aes128Key([0; Aes128Key::LENGTH]);
 
     pub fn null() -> Aes128Key
         ensures { λ r. ⌜ r ≡ nullKey ⌝ }
@@ -64,18 +64,18 @@ impl Aes128Key {
         if b.len() != Aes128Key::LENGTH {
             return KeyRead::refused(Refusal::KEY_LENGTH);
         }
-        let mut k = [0u8; 16];
+        let mut k = [0u8; Aes128Key::LENGTH];
         put_all(b, &mut k, 0);
         KeyRead::accepted(k)
     }
 
-    pub fn from_bytes(b: [u8; 16]) -> Aes128Key
+    pub fn from_bytes(b: [u8; Aes128Key::LENGTH]) -> Aes128Key
         ensures { λ r. ⌜ r ≡ keyOf b ⌝ }
     {
         Aes128Key(b)
     }
 
-    pub fn to_bytes(self) -> [u8; 16]
+    pub fn to_bytes(self) -> [u8; Aes128Key::LENGTH]
         ensures { λ r. ⌜ r ≡ self .0 ⌝ }
     {
         self.0
@@ -100,7 +100,7 @@ impl Aes128Key {
         if !is_hex(s) {
             return KeyRead::refused(Refusal::KEY_DIGIT);
         }
-        let mut k = [0u8; 16];
+        let mut k = [0u8; Aes128Key::LENGTH];
         read_hex(s, &mut k);
         KeyRead::accepted(k)
     }

@@ -113,5 +113,11 @@ itemMost = 255
 abbrev pub pathMost : ℕ
 pathMost = 42
 
+abbrev pub entryBytes : ℕ
+entryBytes = 6
+
+abbrev pub cacheLeast : ℕ
+cacheLeast = 1
+
 abbrev pub cacheMost : ℕ
 cacheMost = 64

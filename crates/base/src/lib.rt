@@ -83,6 +83,10 @@ impl Limit {
     pub const ITEM: usize = 255;
 
     pub const PATH: usize = 42;
+    // The bytes of one entry of a path.
+    pub const ENTRY: usize = 6;
+
+    pub const CACHE_LEAST: usize = 1;
 
     pub const CACHE: usize = 64;
 }

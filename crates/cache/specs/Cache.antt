@@ -6,7 +6,7 @@ use mathlib.Core.List.{List, [], _∷_, _++_}
 use lib.Dec.{ltb, eqb}
 use lib.ListN.{length, getD, take, drop, set, replicate}
 use Rattle.base.specs.Pick.{pick}
-use Rattle.base.specs.Numbers.{cacheSize, cacheMost}
+use Rattle.base.specs.Numbers.{cacheSize, cacheLeast, cacheMost}
 use Rattle.base.specs.Answers.{Answer, value, number}
 use Rattle.base.specs.declared.Checked.the-variants.{Accepted, Refused as NotMade}
 use Rattle.fields.specs.Header.{codeOf}
@@ -92,7 +92,7 @@ emptyRing n = record { slots = replicate 64 (rec Uplink 0 0 0); size = n; len = 
 -- 24 for a size of 0 or over 64, with a cache of size 0
 unfoldable pub newOf : ℕ → CacheNew
 newOf n =
-    pick (ltb n 1) (record { answer = NotMade cacheSize; cache = emptyRing 0 })
+    pick (ltb n cacheLeast) (record { answer = NotMade cacheSize; cache = emptyRing 0 })
     (pick (ltb cacheMost n) (record { answer = NotMade cacheSize; cache = emptyRing 0 })
     (record { answer = Accepted; cache = emptyRing n }))
 
@@ -119,7 +119,7 @@ refusedBy c = record { answer = Refused cacheSize; cache = c }
 
 unfoldable pub addedOf : Cache → PayloadCache → Added
 addedOf c r =
-    pick (ltb (c .size) 1) (refusedBy c)
+    pick (ltb (c .size) cacheLeast) (refusedBy c)
     (pick (ltb cacheMost (c .size)) (refusedBy c)
     (pick (has (take (ringCount c) (c .slots)) r) (record { answer = Seen; cache = c })
     (record { answer = New; cache = pushedOf c r })))

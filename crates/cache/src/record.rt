@@ -36,13 +36,13 @@ fn stamped(p_type: PayloadType, timestamp: u32, relay_id: u32) -> PayloadCache
     }
 }
 
-fn type_by_code(code: u32) -> PayloadType
+fn type_by_code(code: u8) -> PayloadType
     ensures { λ r. ⌜ r ≡ typeByCode code ⌝ }
 {
     match code {
-        0 => PayloadType::Uplink,
-        1 => PayloadType::Downlink,
-        2 => PayloadType::Event,
+        PayloadType::UPLINK => PayloadType::Uplink,
+        PayloadType::DOWNLINK => PayloadType::Downlink,
+        PayloadType::EVENT => PayloadType::Event,
         _ => PayloadType::Command,
     }
 }
@@ -90,7 +90,7 @@ impl PayloadCache {
     pub fn unpack(w: [u32; 3]) -> PayloadCache
         ensures { λ r. ⌜ r ≡ unpackOf w ⌝ }
     {
-        let p_type = type_by_code(w[0] / 65536 % 4);
+        let p_type = type_by_code((w[0] / 65536 % 4) as u8);
         PayloadCache {
             p_type,
             uplink_id: (w[0] % 65536) as u16,

@@ -66,7 +66,7 @@ impl Cache {
     pub fn new(size: usize) -> CacheNew
         ensures { λ r. ⌜ r ≡ newOf size ⌝ }
     {
-        if size < 1 {
+        if size < Limit::CACHE_LEAST {
             return CacheNew {
                 answer: Checked::Refused(Refusal::CACHE_SIZE),
                 cache: empty(0),
@@ -89,7 +89,7 @@ impl Cache {
         ensures { λ a. ⌜ a ≡ addedOf self r ⌝ }
     {
         let size = self.size;
-        if size < 1 {
+        if size < Limit::CACHE_LEAST {
             return refuse_size(self);
         }
         if Limit::CACHE < size {

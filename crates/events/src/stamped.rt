@@ -87,7 +87,7 @@ impl Stamped {
         StampedRead::Stamped(Stamped {
             timestamp: be32_of(b[0], b[1], b[2], b[3]),
             relay_id: be32_of(b[4], b[5], b[6], b[7]),
-            body: Body::of(8 + at as usize, b.len() - 8),
+            body: Body::of(Body::LEAST + at as usize, b.len() - Body::LEAST),
         })
     }
 

@@ -37,6 +37,24 @@ use Rattle.fields.proofs.path.RelayPath.from_bytes.Kinds as path-from-b
 use Rattle.fields.proofs.path.RelayPath.from_bytes.Reads as path-from-bytes-reads
 use Rattle.fields.proofs.path.RelayPath.to_bytes.Kinds as path-to-bytes-kinds
 use Rattle.fields.proofs.path.RelayPath.to_bytes.Reads as path-to-bytes-reads
+use Rattle.fields.proofs.header.PayloadType.limits.Kinds as type-limits-kinds
+use Rattle.fields.proofs.header.PayloadType.limits.Reads as type-limits-reads
+use Rattle.fields.proofs.freq.Frequency.limits.Kinds as frequency-limits-kinds
+use Rattle.fields.proofs.freq.Frequency.limits.Reads as frequency-limits-reads
+use Rattle.fields.proofs.meta.UplinkId.limits.Kinds as id-limits-kinds
+use Rattle.fields.proofs.meta.UplinkId.limits.Reads as id-limits-reads
+use Rattle.fields.proofs.meta.Dr.limits.Kinds as dr-limits-kinds
+use Rattle.fields.proofs.meta.Dr.limits.Reads as dr-limits-reads
+use Rattle.fields.proofs.meta.Channel.limits.Kinds as channel-limits-kinds
+use Rattle.fields.proofs.meta.Channel.limits.Reads as channel-limits-reads
+use Rattle.fields.proofs.meta.TxPower.limits.Kinds as tx-power-limits-kinds
+use Rattle.fields.proofs.meta.TxPower.limits.Reads as tx-power-limits-reads
+use Rattle.fields.proofs.word.RelayId.limits.Kinds as relay-limits-kinds
+use Rattle.fields.proofs.word.RelayId.limits.Reads as relay-limits-reads
+use Rattle.fields.proofs.word.Timestamp.limits.Kinds as timestamp-limits-kinds
+use Rattle.fields.proofs.word.Timestamp.limits.Reads as timestamp-limits-reads
+use Rattle.fields.proofs.word.Mic.limits.Kinds as mic-limits-kinds
+use Rattle.fields.proofs.word.Mic.limits.Reads as mic-limits-reads
 
 type-from-byte : Fixed 0 type-from-byte-kinds.ps type-from-byte-kinds.r type-from-byte-reads.Post
 type-from-byte κs a x y v w p q = (p ∙ sym q, refl)
@@ -91,3 +109,30 @@ path-from-bytes κs a x y v w p q = (p ∙ sym q, refl)
 
 path-to-bytes : Fixed 0 path-to-bytes-kinds.ps path-to-bytes-kinds.r path-to-bytes-reads.Post
 path-to-bytes κs a x y v w p q = (p ∙ sym q, refl)
+
+type-limits : Fixed 0 type-limits-kinds.ps type-limits-kinds.r type-limits-reads.Post
+type-limits κs a x y v w p q = (p ∙ sym q, refl)
+
+frequency-limits : Fixed 0 frequency-limits-kinds.ps frequency-limits-kinds.r frequency-limits-reads.Post
+frequency-limits κs a x y v w p q = (p ∙ sym q, refl)
+
+id-limits : Fixed 0 id-limits-kinds.ps id-limits-kinds.r id-limits-reads.Post
+id-limits κs a x y v w p q = (p ∙ sym q, refl)
+
+dr-limits : Fixed 0 dr-limits-kinds.ps dr-limits-kinds.r dr-limits-reads.Post
+dr-limits κs a x y v w p q = (p ∙ sym q, refl)
+
+channel-limits : Fixed 0 channel-limits-kinds.ps channel-limits-kinds.r channel-limits-reads.Post
+channel-limits κs a x y v w p q = (p ∙ sym q, refl)
+
+tx-power-limits : Fixed 0 tx-power-limits-kinds.ps tx-power-limits-kinds.r tx-power-limits-reads.Post
+tx-power-limits κs a x y v w p q = (p ∙ sym q, refl)
+
+relay-limits : Fixed 0 relay-limits-kinds.ps relay-limits-kinds.r relay-limits-reads.Post
+relay-limits κs a x y v w p q = (p ∙ sym q, refl)
+
+timestamp-limits : Fixed 0 timestamp-limits-kinds.ps timestamp-limits-kinds.r timestamp-limits-reads.Post
+timestamp-limits κs a x y v w p q = (p ∙ sym q, refl)
+
+mic-limits : Fixed 0 mic-limits-kinds.ps mic-limits-kinds.r mic-limits-reads.Post
+mic-limits κs a x y v w p q = (p ∙ sym q, refl)

@@ -4,3 +4,4 @@ pub mod Signal
 pub mod Freq
 pub mod Meta
 pub mod Path
+pub mod Limits

@@ -4,6 +4,7 @@ use lib.Dec.{ltb, eqb}
 use Rattle.base.specs.Pick.{pick}
 use Rattle.base.specs.Numbers.{notMesh, hopsNone, hopsMany, typeLarge}
 use Rattle.base.specs.Answers.{Answer, value, number}
+use Rattle.fields.specs.Limits.{hopsLeast, hopsMost}
 use Rattle.fields.specs.declared.header.PayloadType.{PayloadType}
 use Rattle.fields.specs.declared.header.PayloadType.the-variants.{Uplink, Downlink, Event, Command}
 use Rattle.fields.specs.declared.header.TypeRead.{TypeRead}
@@ -26,17 +27,24 @@ codeOf Downlink = 1
 codeOf Event = 2
 codeOf Command = 3
 
+-- the two bits of type, and the hop count, of a header byte
+abbrev pub codeAt : ℕ → ℕ
+codeAt b = b / 8 % 4
+
+abbrev pub hopsAt : ℕ → ℕ
+hopsAt b = b % 8 + 1
+
 abbrev pub typed : ℕ → TypeRead → HeaderRead
 typed hops (Kind t) = Header (record { «payload_type» = t; «hop_count» = hops })
 typed hops (NoKind n) = NoHeader n
 
 unfoldable pub headerOf : ℕ → HeaderRead
-headerOf b = pick (eqb (b / 32) 7) (typed (b % 8 + 1) (typeRead (b / 8 % 4))) (NoHeader notMesh)
+headerOf b = pick (eqb (b / 32) 7) (typed (hopsAt b) (typeRead (codeAt b))) (NoHeader notMesh)
 
 unfoldable pub headerByte : MHDR → HeaderByte
 headerByte h =
-    pick (ltb (h .«hop_count») 1) (NoByte hopsNone)
-    (pick (ltb 8 (h .«hop_count»)) (NoByte hopsMany)
+    pick (ltb (h .«hop_count») hopsLeast) (NoByte hopsNone)
+    (pick (ltb hopsMost (h .«hop_count»)) (NoByte hopsMany)
     (Byte (224 + codeOf (h .«payload_type») * 8 + (h .«hop_count» - 1))))
 
 -- document 01's number, or the value, of each answer

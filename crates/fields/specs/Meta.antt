@@ -6,6 +6,7 @@ use lib.ListN.{getD}
 use Rattle.base.specs.Pick.{pick}
 use Rattle.base.specs.Numbers.{uplinkIdLarge, drLarge, delayNone, txPowerLarge, delayLarge}
 use Rattle.base.specs.Answers.{Frame, bytes, refused, unlessRefused, checkedOf, bytesOr}
+use Rattle.fields.specs.Limits.{uplinkIdMost, drMost, txPowerMost, delayLeast, delayMost}
 use Rattle.fields.specs.Freq.{hertzOf, freqWire}
 use Rattle.fields.specs.Signal.{rssiOf, snrOf, rssiByte, snrByte}
 use Rattle.fields.specs.declared.signal.SignalByte.{SignalByte}
@@ -24,7 +25,7 @@ idBytes id dr = (id / 16 % 256) ∷ (id % 16 * 16 + dr) ∷ []
 
 -- the first refusal, or 0
 unfoldable pub idRefusal : ℕ → ℕ → ℕ
-idRefusal id dr = pick (ltb 4095 id) uplinkIdLarge (pick (ltb 15 dr) drLarge 0)
+idRefusal id dr = pick (ltb uplinkIdMost id) uplinkIdLarge (pick (ltb drMost dr) drLarge 0)
 
 -- ---- uplinks: id and dr, rssi, snr, channel
 
@@ -75,7 +76,8 @@ downOf b =
 unfoldable pub downRefusal : DownlinkMetadata → ℕ
 downRefusal m =
     pick (eqb (idRefusal (m .«uplink_id») (m .dr)) 0)
-    (pick (ltb (m .delay) 1) delayNone (pick (ltb 15 (m .«tx_power»)) txPowerLarge (pick (ltb 16 (m .delay)) delayLarge 0)))
+    (pick (ltb (m .delay) delayLeast) delayNone
+    (pick (ltb txPowerMost (m .«tx_power»)) txPowerLarge (pick (ltb delayMost (m .delay)) delayLarge 0)))
     (idRefusal (m .«uplink_id») (m .dr))
 
 abbrev pub afterFreq : DownlinkMetadata → Frame → Frame

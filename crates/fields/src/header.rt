@@ -1,5 +1,7 @@
 // The header byte: 111, two bits of type, three bits of hop count minus 1.
 ghost use mathlib.Core.Path.{_≡_};
+ghost use mathlib.Core.List.{[], _∷_};
+ghost use Rattle.fields.specs.Limits.{typeLeast, typeMost};
 ghost use Rattle.fields.specs.Header.{typeRead, codeOf, headerOf, headerByte};
 use base::Refusal;
 
@@ -23,6 +25,16 @@ impl PayloadType {
     pub const EVENT: u8 = 2;
 
     pub const COMMAND: u8 = 3;
+
+    pub const LEAST: u8 = PayloadType::UPLINK;
+
+    pub const MOST: u8 = PayloadType::COMMAND;
+
+    pub fn limits() -> [u8; 2]
+        ensures { λ r. ⌜ r ≡ typeLeast ∷ typeMost ∷ [] ⌝ }
+    {
+        [PayloadType::LEAST, PayloadType::MOST]
+    }
 
     pub fn from_byte(b: u8) -> TypeRead
         ensures { λ r. ⌜ r ≡ typeRead b ⌝ }

@@ -1,6 +1,8 @@
 // Uplink and downlink metadata: five and six bytes. The first two, 12 bits of uplink id and 4 of dr, are alike.
 ghost use mathlib.Core.Path.{_≡_};
+ghost use mathlib.Core.List.{[], _∷_};
 ghost use Rattle.base.specs.Answers.{refused};
+ghost use Rattle.fields.specs.Limits.{uplinkIdLeast, uplinkIdMost, drLeast, drMost, channelLeast, channelMost, txPowerLeast, txPowerMost};
 ghost use Rattle.fields.specs.Meta.{idOf, idRefusal, downRefusal, upOf, upBytes, upAnswer, downOf, downBytes, downAnswer};
 use crate::freq::StepsRead;
 use crate::freq::hertz;
@@ -16,19 +18,57 @@ use base::Refusal;
 pub struct UplinkId;
 
 impl UplinkId {
+    pub const LEAST: u16 = 0;
+
     pub const MOST: u16 = 4095;
+
+    pub fn limits() -> [u16; 2]
+        ensures { λ r. ⌜ r ≡ uplinkIdLeast ∷ uplinkIdMost ∷ [] ⌝ }
+    {
+        [UplinkId::LEAST, UplinkId::MOST]
+    }
 }
 
 pub struct Dr;
 
 impl Dr {
+    pub const LEAST: u8 = 0;
+
     pub const MOST: u8 = 15;
+
+    pub fn limits() -> [u8; 2]
+        ensures { λ r. ⌜ r ≡ drLeast ∷ drMost ∷ [] ⌝ }
+    {
+        [Dr::LEAST, Dr::MOST]
+    }
+}
+
+pub struct Channel;
+
+impl Channel {
+    pub const LEAST: u8 = 0;
+
+    pub const MOST: u8 = 255;
+
+    pub fn limits() -> [u8; 2]
+        ensures { λ r. ⌜ r ≡ channelLeast ∷ channelMost ∷ [] ⌝ }
+    {
+        [Channel::LEAST, Channel::MOST]
+    }
 }
 
 pub struct TxPower;
 
 impl TxPower {
+    pub const LEAST: u8 = 0;
+
     pub const MOST: u8 = 15;
+
+    pub fn limits() -> [u8; 2]
+        ensures { λ r. ⌜ r ≡ txPowerLeast ∷ txPowerMost ∷ [] ⌝ }
+    {
+        [TxPower::LEAST, TxPower::MOST]
+    }
 }
 
 pub struct Delay;
@@ -49,7 +89,7 @@ pub struct UplinkMetadata {
 
 pub struct UplinkBytes {
     pub answer: Checked,
-    pub bytes: [u8; 5],
+    pub bytes: [u8; UplinkMetadata::LENGTH],
 }
 
 pub struct DownlinkMetadata {
@@ -62,7 +102,7 @@ pub struct DownlinkMetadata {
 
 pub struct DownlinkBytes {
     pub answer: Checked,
-    pub bytes: [u8; 6],
+    pub bytes: [u8; DownlinkMetadata::LENGTH],
 }
 
 // The twelve bits of an id.
@@ -113,11 +153,11 @@ impl UplinkMetadata {
     {
         UplinkBytes {
             answer: Checked::Refused(n),
-            bytes: [0u8; 5],
+            bytes: [0u8; UplinkMetadata::LENGTH],
         }
     }
 
-    pub fn from_bytes(b: [u8; 5]) -> UplinkMetadata
+    pub fn from_bytes(b: [u8; UplinkMetadata::LENGTH]) -> UplinkMetadata
         ensures { λ r. ⌜ r ≡ upOf b ⌝ }
     {
         UplinkMetadata {
@@ -165,11 +205,11 @@ impl DownlinkMetadata {
     {
         DownlinkBytes {
             answer: Checked::Refused(n),
-            bytes: [0u8; 6],
+            bytes: [0u8; DownlinkMetadata::LENGTH],
         }
     }
 
-    pub fn from_bytes(b: [u8; 6]) -> DownlinkMetadata
+    pub fn from_bytes(b: [u8; DownlinkMetadata::LENGTH]) -> DownlinkMetadata
         ensures { λ r. ⌜ r ≡ downOf b ⌝ }
     {
         DownlinkMetadata {

@@ -9,6 +9,7 @@ use crate::signal::rssi_of;
 use crate::signal::snr_byte;
 use crate::signal::snr_of;
 use base::Checked;
+use base::Limit;
 use wire::be32_bytes;
 use wire::be32_of;
 
@@ -20,22 +21,22 @@ pub struct RelayPath {
 
 pub struct PathBytes {
     pub answer: Checked,
-    pub bytes: [u8; 6],
+    pub bytes: [u8; RelayPath::LENGTH],
 }
 
 impl RelayPath {
-    pub const LENGTH: usize = 6;
+    pub const LENGTH: usize = Limit::ENTRY;
 
     fn refused(n: u8) -> PathBytes
         ensures { λ r. ⌜ r ≡ pathAnswer (refused n) ⌝ }
     {
         PathBytes {
             answer: Checked::Refused(n),
-            bytes: [0u8; 6],
+            bytes: [0u8; RelayPath::LENGTH],
         }
     }
 
-    pub fn from_bytes(b: [u8; 6]) -> RelayPath
+    pub fn from_bytes(b: [u8; RelayPath::LENGTH]) -> RelayPath
         ensures { λ r. ⌜ r ≡ pathOf b ⌝ }
     {
         RelayPath {

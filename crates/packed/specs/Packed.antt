@@ -8,7 +8,7 @@ use mathlib.Core.List.{List, [], _∷_}
 use lib.Dec.{ltb, eqb}
 use lib.ListN.{getD, set, replicate}
 use Rattle.base.specs.Pick.{pick}
-use Rattle.base.specs.Numbers.{cacheSize, cacheMost}
+use Rattle.base.specs.Numbers.{cacheSize, cacheLeast, cacheMost}
 use Rattle.base.specs.declared.Checked.{Checked}
 use Rattle.base.specs.declared.Checked.the-variants.{Accepted, Refused as NotMade}
 use Rattle.cache.specs.declared.record.PayloadCache.{PayloadCache}
@@ -45,10 +45,10 @@ clearedWords n = n ∷ replicate 194 0
 
 -- 24 for a size of 0 or over 64, and the words as they were
 unfoldable pub clearAnswer : ℕ → Checked
-clearAnswer n = pick (ltb n 1) (NotMade cacheSize) (pick (ltb cacheMost n) (NotMade cacheSize) Accepted)
+clearAnswer n = pick (ltb n cacheLeast) (NotMade cacheSize) (pick (ltb cacheMost n) (NotMade cacheSize) Accepted)
 
 unfoldable pub clearWords : ℕ → List ℕ → List ℕ
-clearWords n w = pick (ltb n 1) w (pick (ltb cacheMost n) w (clearedWords n))
+clearWords n w = pick (ltb n cacheLeast) w (pick (ltb cacheMost n) w (clearedWords n))
 
 -- ---- a record, of which p are the three words
 
@@ -80,12 +80,12 @@ pushedWords w p = set (set (storedAt w p (placeIn w)) 1 (min (countIn w + 1) (si
 
 unfoldable pub addAnswer : List ℕ → PayloadCache → CacheAnswer
 addAnswer w r =
-    pick (ltb (sizeIn w) 1) (Refused cacheSize)
+    pick (ltb (sizeIn w) cacheLeast) (Refused cacheSize)
     (pick (ltb cacheMost (sizeIn w)) (Refused cacheSize) (pick (isBelow w (packOf r) (countIn w)) Seen New))
 
 unfoldable pub addWords : List ℕ → PayloadCache → List ℕ
 addWords w r =
-    pick (ltb (sizeIn w) 1) w
+    pick (ltb (sizeIn w) cacheLeast) w
     (pick (ltb cacheMost (sizeIn w)) w (pick (isBelow w (packOf r) (countIn w)) w (pushedWords w (packOf r))))
 
 -- the answers to records that are added one after the other

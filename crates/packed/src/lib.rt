@@ -31,7 +31,7 @@ pub fn clear(words: &mut Words, size: u32) -> Checked
     ensures answer { λ a. ⌜ a ≡ clearAnswer size ⌝ }
     ensures words { λ _. ⌜ now (words .exit) ≡ clearWords size (now (words .entry)) ⌝ }
 {
-    if size < 1 {
+    if (size as usize) < Limit::CACHE_LEAST {
         return Checked::Refused(Refusal::CACHE_SIZE);
     }
     if Limit::CACHE < size as usize {
@@ -86,7 +86,7 @@ pub fn add(words: &mut Words, r: PayloadCache) -> CacheAnswer
     ensures words { λ _. ⌜ now (words .exit) ≡ addWords (now (words .entry)) r ⌝ }
 {
     let size = size_of(words[0]);
-    if size < 1 {
+    if size < Limit::CACHE_LEAST {
         return CacheAnswer::Refused(Refusal::CACHE_SIZE);
     }
     if Limit::CACHE < size {

@@ -32,7 +32,7 @@ pub struct DownlinkHead {
 
 impl DownlinkPayload {
     // The shortest body.
-    pub const LEAST: usize = 10;
+    pub const LEAST: usize = DownlinkMetadata::LENGTH + 4;
 
     // A body that lies in its frame from byte `at` on.
     pub fn read_at(b: &[u8], at: u8) -> DownlinkRead
@@ -48,8 +48,8 @@ impl DownlinkPayload {
             metadata: DownlinkMetadata::from_bytes([b[0], b[1], b[2], b[3], b[4], b[5]]),
             relay_id: be32_of(b[6], b[7], b[8], b[9]),
             phy_payload: Run {
-                start: 10 + at as usize,
-                len: b.len() - 10,
+                start: DownlinkPayload::LEAST + at as usize,
+                len: b.len() - DownlinkPayload::LEAST,
             },
         })
     }

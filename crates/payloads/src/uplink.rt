@@ -31,8 +31,8 @@ pub struct UplinkHead {
 }
 
 impl UplinkPayload {
-    // The shortest body.
-    pub const LEAST: usize = 9;
+    // The shortest body: metadata and relay id.
+    pub const LEAST: usize = UplinkMetadata::LENGTH + 4;
 
     // A body that lies in its frame from byte `at` on.
     pub fn read_at(b: &[u8], at: u8) -> UplinkRead
@@ -48,8 +48,8 @@ impl UplinkPayload {
             metadata: UplinkMetadata::from_bytes([b[0], b[1], b[2], b[3], b[4]]),
             relay_id: be32_of(b[5], b[6], b[7], b[8]),
             phy_payload: Run {
-                start: 9 + at as usize,
-                len: b.len() - 9,
+                start: UplinkPayload::LEAST + at as usize,
+                len: b.len() - UplinkPayload::LEAST,
             },
         })
     }
