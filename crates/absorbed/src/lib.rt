@@ -9,6 +9,7 @@ ghost use Rattle.fields.specs.Path.{sixOf};
 ghost use Rattle.kept.specs.Kept.{headed, fixed, itemBytes, openBytes};
 ghost use Rattle.composed.specs.Composed.{lists, paths, pathRun, itemWire, composedBytes};
 ghost use Rattle.bodies.specs.Body.{lent, bodyBytes};
+use base::Limit;
 use bodies::Body;
 use bodies::held_in;
 use cipher::Cipher;
@@ -32,7 +33,7 @@ fn absorb_beat(m: Mac, e: &Cipher, value: &[u8]) -> Mac
 {
     let mut a = m;
     let mut i: usize = 0;
-    while 6 <= value.len() - i {
+    while Limit::ENTRY <= value.len() - i {
         let six = [
             value[i],
             value[i + 1],
@@ -43,7 +44,7 @@ fn absorb_beat(m: Mac, e: &Cipher, value: &[u8]) -> Mac
         ];
         let b = a.absorb(e, &six);
         a = b;
-        i += 6;
+        i += Limit::ENTRY;
     }
     a.absorb(e, &value[i..])
 }
@@ -98,7 +99,7 @@ fn absorb_path(
     ensures { λ r. ⌜ r ≡ foldl (absorb1 (enciphered (now (e .entry)))) m (headed 0 (joined sixOf (pathRun (paths (now (ids .entry)) (now (rssis .entry)) (now (snrs .entry))) place len))) ⌝ }
 {
     let n = held(path_count(ids, rssis, snrs), place, len);
-    let head = [0u8, low_byte(6 * n)];
+    let head = [0u8, low_byte(Limit::ENTRY * n)];
     let mut a = m.absorb(e, &head);
     let run = run_of(place, len);
     let start = run.start;

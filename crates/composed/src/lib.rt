@@ -257,7 +257,7 @@ fn uneven(is_event: bool, path: bool, tag: u8, len: u32) -> u8
         return 0;
     }
     if is_beat(is_event, tag) {
-        if len % 6 != 0 {
+        if size_of(len) % Limit::ENTRY != 0 {
             return Refusal::HEARTBEAT_LENGTH;
         }
         return 0;
@@ -363,7 +363,7 @@ fn item_size(
     ensures { λ r. ⌜ r ≡ length (itemWire «is_event» (lists [] [] (now (ids .entry)) (now (rssis .entry)) (now (snrs .entry)) (now (src .entry))) it) ⌝ }
 {
     if is_path(is_event, it.kind) {
-        return 2 + 6 * held(path_count(ids, rssis, snrs), it.place, it.len);
+        return 2 + Limit::ENTRY * held(path_count(ids, rssis, snrs), it.place, it.len);
     }
     2 + held(src.len(), it.place, it.len)
 }
@@ -441,10 +441,10 @@ fn put_path(
     if out.len() < at {
         return;
     }
-    if out.len() - at < 2 + 6 * n {
+    if out.len() - at < 2 + Limit::ENTRY * n {
         return;
     }
-    let head = [0u8, low_byte(6 * n)];
+    let head = [0u8, low_byte(Limit::ENTRY * n)];
     put_all(&head, out, at);
     let start = size_of(place);
     let body = at + 2;
@@ -454,7 +454,7 @@ fn put_path(
         let made = entry(start + i, ids, rssis, snrs);
         let six = made.bytes;
         put_all(&six, out, body + o);
-        o += 6;
+        o += Limit::ENTRY;
         i += 1;
     }
 }

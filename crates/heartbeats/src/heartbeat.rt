@@ -37,7 +37,7 @@ fn bad_length(n: usize) -> u8
     if Limit::ITEM < n {
         return Refusal::ITEM_LONG;
     }
-    if 0 < n % 6 {
+    if 0 < n % Limit::ENTRY {
         return Refusal::HEARTBEAT_LENGTH;
     }
     0
@@ -48,7 +48,7 @@ fn entry_at(b: &[u8], i: usize) -> RelayPath
     requires { ⌜ i * 6 + 6 ≤ length (now b) ⌝ }
     ensures { λ r. ⌜ r ≡ entryAt (now (b .entry)) i ⌝ }
 {
-    let k = i * 6;
+    let k = i * Limit::ENTRY;
     RelayPath::from_bytes([b[k], b[k + 1], b[k + 2], b[k + 3], b[k + 4], b[k + 5]])
 }
 
@@ -105,10 +105,10 @@ fn verdict(bad: u8, n: usize, room: usize) -> Written
     if Limit::PATH < n {
         return Written::Refused(Refusal::ITEM_LONG);
     }
-    if room < n * 6 {
+    if room < n * Limit::ENTRY {
         return Written::Refused(Refusal::OUTPUT_SHORT);
     }
-    Written::Bytes(n * 6)
+    Written::Bytes(n * Limit::ENTRY)
 }
 
 // How many entries are to be written.
@@ -117,7 +117,7 @@ fn places_of(w: Written) -> usize
 {
     match w {
         Written::Refused(_) => 0,
-        Written::Bytes(n) => n / 6,
+        Written::Bytes(n) => n / Limit::ENTRY,
     }
 }
 
@@ -127,7 +127,7 @@ fn put_entry(out: &mut [u8], i: usize, p: RelayPath)
     ensures { λ _. ⌜ now (out .exit) ≡ put (now (out .entry)) (i * 6) (sixOf p) ⌝ }
 {
     let b = p.to_bytes().bytes;
-    let k = i * 6;
+    let k = i * Limit::ENTRY;
     out[k] = b[0];
     out[k + 1] = b[1];
     out[k + 2] = b[2];
@@ -146,10 +146,12 @@ impl HeartbeatPayload {
         if refusal != 0 {
             return HeartbeatRead::Refused(refusal);
         }
-        if places < n / 6 {
+        if places < n / Limit::ENTRY {
             return HeartbeatRead::Refused(Refusal::OUTPUT_SHORT);
         }
-        HeartbeatRead::Heartbeat(HeartbeatPayload { entries: n / 6 })
+        HeartbeatRead::Heartbeat(HeartbeatPayload {
+            entries: n / Limit::ENTRY,
+        })
     }
 
     // Entry i of a value, without a list. A value that `check` refuses for its length has none.
@@ -160,7 +162,7 @@ impl HeartbeatPayload {
         if none != 0 {
             return PathRead::Refused(none);
         }
-        if b.len() / 6 <= i {
+        if b.len() / Limit::ENTRY <= i {
             return PathRead::Refused(Refusal::OUTSIDE);
         }
         PathRead::Entry(entry_at(b, i))

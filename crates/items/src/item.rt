@@ -49,12 +49,12 @@ fn kind_of(is_event: bool, tag: u8) -> ItemKind
     ItemKind::Proprietary
 }
 
-fn bad_beat(is_event: bool, tag: u8, n: u8) -> bool
+fn bad_beat(is_event: bool, tag: u8, n: usize) -> bool
     ensures { λ r. ⌜ r ≡ badBeat «is_event» tag n ⌝ }
 {
     if is_event {
         if tag == 0 {
-            return n % 6 != 0;
+            return n % Limit::ENTRY != 0;
         }
         return false;
     }
@@ -98,7 +98,7 @@ pub fn next_item(payload: &[u8], at: usize, is_event: bool) -> ItemRead
         tag,
         value: Run { start: at + 2, len },
     };
-    if bad_beat(is_event, tag, size) {
+    if bad_beat(is_event, tag, len) {
         return ItemRead::Skipped { item, next };
     }
     ItemRead::Kept { item, next }

@@ -5,6 +5,7 @@ ghost use Rattle.base.specs.Lists.{imap};
 ghost use Rattle.wire.specs.Lay.{put};
 ghost use Rattle.items.specs.Items.{isBeat};
 ghost use Rattle.kept.specs.Kept.{fixed, itemBytes, openBytes};
+use base::Limit;
 use items::ItemRead;
 use items::count_items;
 use items::next_item;
@@ -23,7 +24,7 @@ fn fix(beat: bool, i: usize, b: u8) -> u8
     ensures { λ r. ⌜ r ≡ fixed beat i b ⌝ }
 {
     if beat {
-        if i % 6 == 5 {
+        if i % Limit::ENTRY == 5 {
             return b % 64;
         }
         return b;

@@ -44,15 +44,15 @@ pub fn write_path(ids: &[u32], rssis: &[i16], snrs: &[i8], out: &mut [u8]) -> Wr
     if Limit::PATH < n {
         return Written::Refused(Refusal::ITEM_LONG);
     }
-    if out.len() < n * 6 {
+    if out.len() < n * Limit::ENTRY {
         return Written::Refused(Refusal::OUTPUT_SHORT);
     }
     let mut i: usize = 0;
     while i < n {
         let made = entry(i, ids, rssis, snrs);
         let six = made.bytes;
-        put_all(&six, out, i * 6);
+        put_all(&six, out, i * Limit::ENTRY);
         i += 1;
     }
-    Written::Bytes(n * 6)
+    Written::Bytes(n * Limit::ENTRY)
 }

@@ -23,13 +23,13 @@ returns-4 : tie.Need-returns-4
 unfolding itemAt
 returns-4 c =
     rw (c .before .before .before .before .wide .ensures, c .before .before .kind-of .ensures)
-    (simp (lt-leb _ _ (c .before .before .before .before .before .before .before .before .if1 .left), le-ltb _ _ (c .before .before .before .before .before .before .before .if2 .left), le-ltb _ _ (rw (c .before .before .before .before .wide .ensures) at (c .before .before .before .if3 .left)), sym (c .before .bad-beat .ensures) ∙ c .if4 .taken))
+    (simp (lt-leb _ _ (c .before .before .before .before .before .before .before .before .if1 .left), le-ltb _ _ (c .before .before .before .before .before .before .before .if2 .left), le-ltb _ _ (rw (c .before .before .before .before .wide .ensures) at (c .before .before .before .if3 .left)), rw (c .before .before .before .before .wide .ensures) at (sym (c .before .bad-beat .ensures) ∙ c .if4 .taken)))
 
 returns-5 : tie.Need-returns-5
 unfolding itemAt
 returns-5 c =
     rw (c .before .before .before .before .wide .ensures, c .before .before .kind-of .ensures)
-    (simp (lt-leb _ _ (c .before .before .before .before .before .before .before .before .if1 .left), le-ltb _ _ (c .before .before .before .before .before .before .before .if2 .left), le-ltb _ _ (rw (c .before .before .before .before .wide .ensures) at (c .before .before .before .if3 .left)), sym (c .before .bad-beat .ensures) ∙ c .if4 .left))
+    (simp (lt-leb _ _ (c .before .before .before .before .before .before .before .before .if1 .left), le-ltb _ _ (c .before .before .before .before .before .before .before .if2 .left), le-ltb _ _ (rw (c .before .before .before .before .wide .ensures) at (c .before .before .before .if3 .left)), rw (c .before .before .before .before .wide .ensures) at (sym (c .before .bad-beat .ensures) ∙ c .if4 .left)))
 
 pub next-item-spec : {M : Type 1} → statement M
 next-item-spec = tie.close (tie.spec returns (λ c. search needs) (λ c. search needs) returns-2 (λ c. search needs) (λ c. search needs) (λ c. search needs) (λ c κs. search needs) (λ c. search needs) (λ c. search needs) (λ c. search needs) returns-3 (λ c. search needs) (λ c. search needs) (λ c κs. search needs) (λ c. search needs) (λ c κs. search needs) returns-4 returns-5)
