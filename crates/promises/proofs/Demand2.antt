@@ -1,7 +1,7 @@
 -- Demand 2, over the definitions that every contract is an equation with: which frames are read and which number the others get; what is
 -- read and written again, and written and read back; AES-128 and CMAC as the standards have them; sealing; items; the cache. Assumes
 -- nothing.
-use Prim.Native.Nat.{ℕ, _+_, _/_, _≤_, _<_}
+use Prim.Native.Nat.{ℕ, suc, _+_, _/_, _≤_, _<_}
 use mathlib.Core.Bool.{Bool, true, false}
 use mathlib.Core.Path.{_≡_, refl, sym, ap, _∙_}
 use mathlib.Core.List.{List, [], _++_, foldl, flatten, map}
@@ -10,7 +10,7 @@ use lib.ListN.{length, getD}
 use Rattle.base.specs.Lists.{Bytes}
 use Rattle.base.specs.Blocks.{Block}
 use Rattle.base.specs.Numbers.{frameMost}
-use Rattle.base.specs.Answers.{value, bytes, numberIn}
+use Rattle.base.specs.Answers.{value, number, bytes, numberIn}
 use Rattle.wire.specs.Run.{runBytes, runAt}
 use Rattle.wire.specs.declared.run.Run.{Run}
 use Rattle.fips197.specs.Aes.{aes}
@@ -54,7 +54,7 @@ use Rattle.packed.proofs.Laws.{packed-adds-list}
 use Rattle.packets.specs.Seal.{carrying}
 use Rattle.promises.specs.Said.{Accepts}
 use Rattle.promises.proofs.Said.{mesh-said, packet-said}
-use Rattle.promises.proofs.Refusals.{zero-accepts, accepts-zero, mesh-read, packet-read}
+use Rattle.promises.proofs.Refusals.{zero-accepts, accepts-zero, says-number, mesh-read, packet-read}
 
 -- ---- reading
 
@@ -62,10 +62,13 @@ use Rattle.promises.proofs.Refusals.{zero-accepts, accepts-zero, mesh-r
 pub mesh-reader : (s : List ℕ) → numberIn (meshSays (meshOf s)) ≡ meshNumber s
 mesh-reader = which
 
--- and 0 exactly if it is
+-- and 0 exactly if it is; any other number is what the reader says
 pub mesh-reader-reads : (s : List ℕ) → (meshNumber s ≡ 0 → Accepts (meshSays (meshOf s))) × (Accepts (meshSays (meshOf s)) → meshNumber s ≡ 0)
 mesh-reader-reads s =
     (λ e. zero-accepts (meshSays (meshOf s)) (mesh-read s) (mesh-reader s ∙ e), λ a. sym (mesh-reader s) ∙ accepts-zero (meshSays (meshOf s)) a)
+
+pub mesh-reader-refuses : (s : List ℕ) (n : ℕ) → meshNumber s ≡ suc n → meshSays (meshOf s) ≡ number (suc n)
+mesh-reader-refuses s n e = says-number n (meshSays (meshOf s)) (mesh-reader s ∙ e)
 
 -- "The packet reader takes any other top bits as a LoRa frame, so it never gives 3": 1, 5, then 2 and 4 of a mesh frame
 through : (r : MeshRead) → numberIn (packetSays (ofMesh r)) ≡ numberIn (meshSays r)
@@ -93,6 +96,9 @@ packet-reader s = packet-by s (eqb (length s) 0) (ltb frameMost (length s)) (eqb
 pub packet-reader-reads : (s : List ℕ) → (packetNumber s ≡ 0 → Accepts (packetSays (packetOf s))) × (Accepts (packetSays (packetOf s)) → packetNumber s ≡ 0)
 packet-reader-reads s =
     (λ e. zero-accepts (packetSays (packetOf s)) (packet-read s) (packet-reader s ∙ e), λ a. sym (packet-reader s) ∙ accepts-zero (packetSays (packetOf s)) a)
+
+pub packet-reader-refuses : (s : List ℕ) (n : ℕ) → packetNumber s ≡ suc n → packetSays (packetOf s) ≡ number (suc n)
+packet-reader-refuses s n e = says-number n (packetSays (packetOf s)) (packet-reader s ∙ e)
 
 -- ---- reading and writing
 

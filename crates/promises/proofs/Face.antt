@@ -296,7 +296,7 @@ added-numbered : (w : List ℕ) (id time relay : ℕ) (t : TypeRead) → Numbere
 added-numbered w id time relay (Kind t) s = no-refusal-is-0 .words-add w (rec t id time relay)
 added-numbered w id time relay (NoKind n) s = s
 
--- the exported calls whose answers are not those of `NoZero` as they stand
+-- the exported calls whose answers are not those of `NoZero` as they stand, and `Flat::packet`
 pub record NoZeroForC : Type 0 where
   pub mesh-header-write : (hops n : ℕ) → Numbered (byteSays (headerByteBy hops (typeRead n)))
   pub mesh-read-body : (b : List ℕ) (n : ℕ) → Numbered (meshSays (bareBy b (typeRead n)))
@@ -308,6 +308,7 @@ pub record NoZeroForC : Type 0 where
   pub mesh-decrypt : (k : List ℕ) (f : Flat) (frame work : List ℕ) → Numbered (meshOpenedSays (flatDecrypted k f frame work))
   pub mesh-decode : (f : Flat) (frame work : List ℕ) → Numbered (meshOpenedSays (flatDecoded f frame work))
   pub mesh-record : (f : Flat) → Numbered (meshSays (meshFrom f))
+  pub flat-packet : (f : Flat) → Numbered (packetSays (packetFrom f))
   pub mesh-cache-add : (w : List ℕ) (id time relay n : ℕ) → Numbered (addSays (cacheAnswer w id time relay (typeRead n)))
 
 pub no-refusal-is-0-for-c : NoZeroForC
@@ -323,6 +324,7 @@ no-refusal-is-0-for-c =
       mesh-decrypt = λ k f frame work. decrypted-numbered f frame work k;
       mesh-decode = decoded-numbered;
       mesh-record = mesh-numbered;
+      flat-packet = packet-numbered;
       mesh-cache-add = λ w id time relay n. added-numbered w id time relay (typeRead n) (type-numbered n);
     }
 

@@ -43,8 +43,7 @@ use Rattle.trips.specs.Which.{leastFrame, meshNumber}
 use Rattle.cache.specs.Cache.{newOf}
 use Rattle.promises.specs.Said.{Accepts}
 use Rattle.promises.proofs.Said.{header-said, byte-said, signal-said}
-use Rattle.promises.proofs.Refusals.{says-number}
-use Rattle.promises.proofs.Demand2.{mesh-reader, mesh-reader-reads}
+use Rattle.promises.proofs.Demand2.{mesh-reader-reads, mesh-reader-refuses}
 
 -- ---- the header byte
 
@@ -153,9 +152,8 @@ unfolding meshNumber
 one-byte-less s m l =
     let a : 5 ≤ length s = m .0 in
     let b : length s ≤ 8192 = m .1 in
-    says-number 3 (meshSays (meshOf s))
-    (mesh-reader s
-    ∙ simp (ne-eqb (length s) 0 (λ z. omega arith), le-ltb 8192 (length s) b, le-ltb (length s) 5 a, eq-eqb (getD s 0 0 / 32) 7 (m .2), lt-ltb (length s) (leastFrame (getD s 0 0 / 8 % 4)) l))
+    mesh-reader-refuses s 3
+    (simp (ne-eqb (length s) 0 (λ z. omega arith), le-ltb 8192 (length s) b, le-ltb (length s) 5 a, eq-eqb (getD s 0 0 / 32) 7 (m .2), lt-ltb (length s) (leastFrame (getD s 0 0 / 8 % 4)) l))
 
 -- ---- keys
 
