@@ -49,7 +49,8 @@ use Rattle.events.specs.declared.stamped.CommandRead.{CommandRead}
 use Rattle.events.specs.declared.stamped.CommandRead.the-variants.{Payload as CommandIs, Refused as NoCommand}
 use Rattle.events.proofs.Laws.{event-was, command-was}
 use Rattle.packets.specs.Read.{bodyIn, ofUplink, ofDownlink, ofEvent, ofCommand, payloadAt, meshOf}
-use Rattle.packets.specs.Write.{meshFrame}
+use Rattle.packets.specs.Write.{kindsIn, meshFrame}
+use Rattle.packets.proofs.Laws.{known-payload}
 use Rattle.packets.specs.declared.mesh.Payload.{Payload}
 use Rattle.packets.specs.declared.mesh.Payload.the-variants.{Uplink as AnUplink, Downlink as ADownlink, Event as AnEvent, Command as ACommand}
 use Rattle.packets.specs.declared.mesh.PayloadRead.the-variants.{Payload as PayloadIs}
@@ -62,7 +63,7 @@ use Rattle.trips.proofs.Same.{body-bytes, run-is, clearedBody}
 use Rattle.mic.specs.Mic.{micOf, carryingMic, setMic, comparedBy, validateMic}
 use Rattle.mic.specs.declared.Validated.the-variants.{Valid}
 use Rattle.hops.specs.Hops.{alone, carryingCount, writtenOf, signedAnew, hopEdit}
-use Rattle.hops.proofs.Laws.{sealedWith, C, C-length, signed-is, set-is, edit-is}
+use Rattle.hops.proofs.Laws.{sealedWith, C, C-length, wire-is, signed-is, set-is, edit-is}
 use Rattle.demand.specs.Demand.{Edit, edited}
 
 -- ---- bodies
@@ -298,9 +299,11 @@ module _ (s : List ℕ) (p : MeshPacket) (small : Bytes s) (read : meshOf s ≡ 
     pub new-valid : validateMic E (alone newFrame) newPacket ≡ Valid
     unfolding validateMic
     new-valid =
-        ap (comparedBy E newMic)
+        let k : kindsIn (alone newFrame) newPacket ≡ 0 = known-payload (alone newFrame) (newPacket .payload) _ (wire-is newFrame newPacket new-bytes read-gives) in
+        simp (eq-eqb (kindsIn (alone newFrame) newPacket) 0 k)
+        (ap (comparedBy E newMic)
         (signed-is newFrame newPacket new-bytes read-gives v (carryingCount p (e .count) .mhdr) true newMic byte ∙ ap (λ (x : List ℕ). bytes (v ∷ x)) new-again)
-        ∙ simp (eq-eqb newMic newMic refl)
+        ∙ simp (eq-eqb newMic newMic refl))
 
     -- behind the relay id nothing is changed
     pub new-run : runBytes newFrame (runIn (bodyIn s)) ≡ runBytes s (runIn (bodyIn s))

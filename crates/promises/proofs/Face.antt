@@ -53,7 +53,7 @@ use Rattle.mic.specs.declared.Validated.the-variants.{Refused as NotValidated}
 use Rattle.hops.specs.Hops.{leaves}
 use Rattle.cache.specs.Cache.{rec, addSays}
 use Rattle.packed.specs.Packed.{clearAnswer, clearWords}
-use Rattle.flat.specs.Flat.{typedBy, kindBy, meshFrom, packetFrom}
+use Rattle.flat.specs.Flat.{typedBy, kindBy, strangeBody, meshFrom, packetFrom}
 use Rattle.flat.specs.declared.Flat.{Flat}
 use Rattle.mesh_c.specs.Face.{headerByteBy, ifMesh, ifPacket, flatFrame, flatBody, flatSigned, flatValid, flatSealed, flatSeal, flatDecrypted, flatWork, flatDecoded, openedNumber, countsLeft, placeLeft, bareUplink, bareDownlink, bareEvent, bareCommand, bareOf, bareBy, cacheAnswer, cacheWords}
 use Rattle.promises.specs.Said.{Accepts, Numbered}
@@ -224,7 +224,7 @@ bare-numbered b (Kind type.Command) s = command-numbered (commandAt 0 b) (no-ref
 
 mesh-numbered : (f : Flat) → Numbered (meshSays (meshFrom f))
 unfolding meshFrom
-mesh-numbered f = by (typeRead (f .kind)) (type-numbered (f .kind)) where
+mesh-numbered f = picked meshSays (strangeBody (f .kind) (f .body)) _ _ (omega arith) (by (typeRead (f .kind)) (type-numbered (f .kind))) where
   typed : (k : PayloadType) (t : TypeRead) → Numbered (typeSays t) → Numbered (meshSays (typedBy f k t))
   typed k (Kind t) s = tt
   typed k (NoKind n) s = s

@@ -11,7 +11,7 @@ use lib.ListN.{length, getD, take}
 use borrow.Author.Tests.{eqb-false}
 use Rattle.base.specs.Pick.{pick}
 use Rattle.base.specs.Lists.{firstOf}
-use Rattle.base.specs.Numbers.{frameMost, messageMost, bodyMost, payloadMost, pathMost, cacheMost}
+use Rattle.base.specs.Numbers.{micMissing, frameMost, messageMost, bodyMost, payloadMost, pathMost, cacheMost}
 use Rattle.base.specs.Answers.{Answer, value, number, numberIn, Frame, bytes, refused, unlessRefused, checkedOf, answerOf, writtenSays, checkedSays}
 use Rattle.aes128.specs.Key.{keyFromSlice, keyFromText, keySays}
 use Rattle.fields.specs.Header.{typeRead, typed, headerOf, headerByte, typeSays, headerSays, byteSays}
@@ -36,8 +36,9 @@ use Rattle.fields.specs.declared.meta.UplinkMetadata.{UplinkMetadata}
 use Rattle.fields.specs.declared.meta.DownlinkMetadata.{DownlinkMetadata}
 use Rattle.fields.specs.declared.path.RelayPath.{RelayPath}
 use Rattle.items.specs.Items.{badBeat, openingOf, itemAt, bareItemAt, countsOf, itemSays, countsSay}
-use Rattle.heartbeats.specs.Heartbeat.{beatRefusal, beatOf, beatWire, entryRead, beatSays, pathSays}
+use Rattle.heartbeats.specs.Heartbeat.{entryAt, beatRefusal, entryRefusal, beatOf, beatWire, entryRead, beatSays, pathSays}
 use Rattle.heartbeats.specs.declared.heartbeat.HeartbeatRead.the-variants.{Heartbeat, Refused as NoBeat}
+use Rattle.heartbeats.specs.declared.heartbeat.PathRead.the-variants.{Entry, Refused as NoEntry}
 use Rattle.seal.specs.Stream.{sealedOf}
 use Rattle.wire.specs.Number.{beBytes}
 use Rattle.wire.specs.Hex.{allHex}
@@ -71,7 +72,7 @@ use Rattle.events.specs.declared.stamped.CommandRead.the-variants as command
 use Rattle.events.specs.declared.stamped.CommandOpened.{CommandOpened}
 use Rattle.events.specs.declared.stamped.CommandOpened.the-variants as command-opened
 use Rattle.packets.specs.Read.{bodyIn, ofUplink, ofDownlink, ofEvent, ofCommand, payloadAt, withPayload, withHeader, meshOf, ofMesh, packetOf, meshSays, packetSays}
-use Rattle.packets.specs.Write.{payloadWire, behind, messageOf, meshFrame, loraFrame, packetFrame}
+use Rattle.packets.specs.Write.{payloadWire, kindsIn, behind, messageOf, meshFrame, loraFrame, packetFrame}
 use Rattle.packets.specs.Seal.{ofEventSealed, ofCommandSealed, meshSealed, ofEventOpened, ofCommandOpened, meshDecrypted, meshDecoded, meshOpenedSays}
 use Rattle.packets.specs.declared.mesh.Payload.{Payload}
 use Rattle.packets.specs.declared.mesh.Payload.the-variants.{Uplink, Downlink, Event, Command}
@@ -86,6 +87,7 @@ use Rattle.base.specs.declared.Checked.{Checked}
 use Rattle.base.specs.declared.Written.{Written}
 use Rattle.base.specs.declared.Written.the-variants.{Bytes, Refused as NotWritten}
 use Rattle.mic.specs.Mic.{micOf, fitting, signedOf, signedBy, setMic, comparedBy, validateMic, validSays}
+use Rattle.mic.specs.declared.Validated.the-variants.{Refused as NotValidated}
 use Rattle.hops.specs.Hops.{alone, carryingCount, writtenOf, signedAnew, hopEdit, leaves}
 use Rattle.cache.specs.Cache.{has, ringCount, packOf, newOf, addedOf, addSays}
 use Rattle.cache.specs.declared.record.PayloadCache.{PayloadCache}
@@ -239,7 +241,10 @@ heartbeat v places = by (eqb (beatRefusal (length v) places) 0) refl where
 
 entry : (v : List ℕ) (i : ℕ) → Numbered (pathSays (entryRead v i))
 unfolding entryRead
-entry v i = picked pathSays (leb (i * 6 + 6) (length v)) _ _ tt (omega arith)
+entry v i = by (eqb (entryRefusal (length v) i) 0) refl where
+  by : (t : Bool) → eqb (entryRefusal (length v) i) 0 ≡ t → Numbered (pathSays (pick t (Entry (entryAt v i)) (NoEntry (entryRefusal (length v) i))))
+  by true e = tt
+  by false e = more (entryRefusal (length v) i) e
 
 path : (ps : List RelayPath) → Numbered (frameSays (beatWire ps))
 unfolding beatWire
@@ -370,7 +375,7 @@ behind-byte (NoByte n) f x y = x
 
 message : (l : Lent) (p : MeshPacket) → Numbered (frameSays (messageOf l p))
 unfolding messageOf
-message l p = behind-byte (headerByte (p .mhdr)) (payloadWire l (p .payload)) (header-byte (p .mhdr)) (payload-wire l (p .payload))
+message l p = unless (kindsIn l p) _ (behind-byte (headerByte (p .mhdr)) (payloadWire l (p .payload)) (header-byte (p .mhdr)) (payload-wire l (p .payload)))
 
 with-mic : (has : Bool) (mic : ℕ) (f : Frame) → Numbered (frameSays f) → Numbered (frameSays (withMic has mic f))
 unfolding withMic
@@ -513,10 +518,14 @@ signed E l p = by (signedOf l p) (signed-frame l p) where
 
 validated : (E : List ℕ → List ℕ) (l : Lent) (p : MeshPacket) → Numbered (validSays (validateMic E l p))
 unfolding validateMic
-validated E l p = picked validSays (p .«has_mic») _ _ (by (signedOf l p) (signed-frame l p)) (omega arith) where
+validated E l p = kinds (eqb (kindsIn l p) 0) refl where
   by : (f : Frame) → Numbered (frameSays f) → Numbered (validSays (comparedBy E (p .mic) f))
   by (bytes w) s = picked validSays (eqb (p .mic) (micOf E w)) _ _ tt tt
   by (refused n) s = s
+
+  kinds : (t : Bool) → eqb (kindsIn l p) 0 ≡ t → Numbered (validSays (pick t (pick (p .«has_mic») (comparedBy E (p .mic) (signedOf l p)) (NotValidated micMissing)) (NotValidated (kindsIn l p))))
+  kinds true e = picked validSays (p .«has_mic») _ _ (by (signedOf l p) (signed-frame l p)) (omega arith)
+  kinds false e = more (kindsIn l p) e
 
 hop-edit : (E : List ℕ → List ℕ) (s : List ℕ) (n : ℕ) → Numbered (frameSays (hopEdit E s n))
 unfolding hopEdit
