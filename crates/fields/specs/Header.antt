@@ -27,6 +27,12 @@ codeOf Downlink = 1
 codeOf Event = 2
 codeOf Command = 3
 
+abbrev pub typeLeast : ℕ
+typeLeast = codeOf Uplink
+
+abbrev pub typeMost : ℕ
+typeMost = codeOf Command
+
 -- the two bits of type, and the hop count, of a header byte
 abbrev pub codeAt : ℕ → ℕ
 codeAt b = b / 8 % 4

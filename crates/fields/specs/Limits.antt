@@ -1,12 +1,6 @@
--- The least and the largest value of each field, under the names of its type in src/. Assumes nothing.
+-- The least and the largest value of each field, under the names of its type in src/; the type's are in Header. Assumes nothing.
 use Prim.Native.Nat.{ℕ}
 use lib.IntN.{ℤ, pos, negsuc}
-
-abbrev pub typeLeast : ℕ
-typeLeast = 0
-
-abbrev pub typeMost : ℕ
-typeMost = 3
 
 abbrev pub hopsLeast : ℕ
 hopsLeast = 1

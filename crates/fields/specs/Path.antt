@@ -4,6 +4,7 @@ use mathlib.Core.List.{List, [], _∷_}
 use lib.Dec.{eqb}
 use lib.ListN.{getD}
 use Rattle.base.specs.Pick.{pick}
+use Rattle.base.specs.Numbers.{entryBytes}
 use Rattle.base.specs.Answers.{Frame, frameNumber, checkedOf, bytesOr}
 use Rattle.wire.specs.Number.{beOf, beBytes}
 use Rattle.fields.specs.Signal.{rssiOf, snrOf, rssiByte, snrByte}
@@ -24,18 +25,18 @@ unfoldable pub pathWire : RelayPath → Frame
 pathWire p = afterRssi (beBytes 4 (p .«relay_id»)) [] (snrByte (p .snr)) (rssiByte (p .rssi))
 
 abbrev pub pathAnswer : Frame → PathBytes
-pathAnswer f = record { answer = checkedOf f; bytes = bytesOr 6 f }
+pathAnswer f = record { answer = checkedOf f; bytes = bytesOr entryBytes f }
 
 unfoldable pub pathBytes : RelayPath → PathBytes
 pathBytes p = pathAnswer (pathWire p)
 
 -- byte i of entries one behind the other, as it is written: the top two bits of each sixth byte, which hold no snr, are 0
 abbrev pub entryByte : ℕ → ℕ → ℕ
-entryByte i b = pick (eqb (i % 6) 5) (b % 64) b
+entryByte i b = pick (eqb (i % entryBytes) 5) (b % 64) b
 
 -- document 01's number of the refusal, 0 for none; and the six bytes
 unfoldable pub badEntry : RelayPath → ℕ
 badEntry p = frameNumber (pathWire p)
 
 unfoldable pub sixOf : RelayPath → List ℕ
-sixOf p = bytesOr 6 (pathWire p)
+sixOf p = bytesOr entryBytes (pathWire p)

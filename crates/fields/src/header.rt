@@ -1,8 +1,7 @@
 // The header byte: 111, two bits of type, three bits of hop count minus 1.
 ghost use mathlib.Core.Path.{_≡_};
 ghost use mathlib.Core.List.{[], _∷_};
-ghost use Rattle.fields.specs.Limits.{typeLeast, typeMost};
-ghost use Rattle.fields.specs.Header.{typeRead, codeOf, headerOf, headerByte};
+ghost use Rattle.fields.specs.Header.{typeRead, codeOf, typeLeast, typeMost, headerOf, headerByte};
 use base::Refusal;
 
 pub enum PayloadType {

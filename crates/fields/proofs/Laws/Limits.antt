@@ -14,8 +14,8 @@ use Rattle.base.specs.Lists.{Bytes}
 use Rattle.base.specs.Numbers.{frequencyLarge, frequencyStep}
 use Rattle.wire.specs.Number.{beOf, beMore}
 use Rattle.wire.proofs.Laws.Number.{be-lt}
-use Rattle.fields.specs.Limits.{typeLeast, typeMost, hopsLeast, hopsMost, uplinkIdLeast, uplinkIdMost, drLeast, drMost, rssiLeast, rssiMost, snrLeast, snrMost, channelLeast, channelMost, relayIdLeast, relayIdMost, hertzLeast, hertzMost, hertzWritten, stepsMost, txPowerLeast, txPowerMost, delayLeast, delayMost, timestampLeast, timestampMost, micLeast, micMost}
-use Rattle.fields.specs.Header.{codeAt, hopsAt}
+use Rattle.fields.specs.Limits.{hopsLeast, hopsMost, uplinkIdLeast, uplinkIdMost, drLeast, drMost, rssiLeast, rssiMost, snrLeast, snrMost, channelLeast, channelMost, relayIdLeast, relayIdMost, hertzLeast, hertzMost, hertzWritten, stepsMost, txPowerLeast, txPowerMost, delayLeast, delayMost, timestampLeast, timestampMost, micLeast, micMost}
+use Rattle.fields.specs.Header.{typeLeast, typeMost, codeAt, hopsAt}
 use Rattle.fields.specs.Signal.{rssiOf, snrOf}
 use Rattle.fields.specs.Freq.{halvedOf, stepsAt, stepsOf, scaled, hertzOf}
 use Rattle.fields.specs.Meta.{upOf, downOf}
