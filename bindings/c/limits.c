@@ -584,7 +584,12 @@ static void codes(void) {
                 CHECK(do_write(false, &p, &l, 0) == 45 && do_seal(&p, &l, 0) == 45 && do_sign(&p, &l) == 45);
             } else {
                 none(p, &l);
-                /* One that the body does not count is not looked at. */
+                /* Of those that both lists have, 29, also where the body counts more; what it does not count is not looked at. */
+                p.len = UINT64_MAX;
+                none(p, &l);
+                mesh_lent few = l;
+                few.spans_len = 1;
+                CHECK(do_write(false, &p, &few, 0) == 45 && do_seal(&p, &few, 0) == 45 && do_sign(&p, &few) == 45);
                 p.len = 1;
                 CHECK(do_write(false, &p, &l, 0) == 45);
             }
@@ -595,6 +600,8 @@ static void codes(void) {
                 mesh_packet p = at(kind, (uint8_t)body, 1, len);
                 none(p, &l);
                 CHECK(do_decrypt(&p, value, 3, NULL, 0) == 29 && do_decode(&p, value, 3, NULL, 0) == 29);
+                uint64_t known[4] = {7, 7, 7, 7};
+                CHECK(mesh_record(MESH_PACKET_OF(&p), known) == 29 && known[0] == 7 && known[3] == 7);
             }
     }
     /* Of the others the body is not looked at. */

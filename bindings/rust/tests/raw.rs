@@ -556,6 +556,11 @@ fn kinds_that_are_none() {
         refused(COMMAND, &[[none, 1]], &[[0, 0]]);
         refused(COMMAND, &[any, any, [none, 0]], &[[0, 256], [301, 1], [0, 6]]);
     }
+    // An item is what both lists have: of one that they lack, 45.
+    let l = L { work: &value, kinds: &[any, [0, 1]], spans: &[[0, 1]], ..L::default() };
+    assert_eq!(write(&P { body: ITEMS, len: 2, ..good(EVENT) }, &l, 99), Err(45));
+    let l = L { work: &value, kinds: &[any, [0, 1]], spans: &[[0, 1]; 2], ..L::default() };
+    assert_eq!(write(&P { body: ITEMS, len: 3, ..good(EVENT) }, &l, 99), Err(29));
     // Items that the body does not count are not looked at.
     let l = L { work: &value, kinds: &[any, [0, 0]], spans: &[[0, 1], [0, 1]], ..L::default() };
     for kind in [EVENT, COMMAND] {
