@@ -10,7 +10,7 @@ use base::least;
 use fields::PayloadType;
 
 pub struct Cache {
-    slots: [PayloadCache; 64],
+    slots: [PayloadCache; Limit::CACHE],
     size: usize,
     len: usize,
     next: usize,
@@ -43,7 +43,7 @@ fn empty(size: usize) -> Cache
         timestamp: 0,
         relay_id: 0,
     };
-    let slots = [none; 64];
+    let slots = [none; Limit::CACHE];
     Cache {
         slots,
         size,

@@ -15,6 +15,7 @@ use fields::DownlinkMetadata;
 use fields::MHDR;
 use fields::PayloadType;
 use fields::UplinkMetadata;
+use flat::Flat;
 use flat::from_u8;
 use flat::from_u16;
 use flat::from_u32;
@@ -85,9 +86,9 @@ fn sealed_code(len: usize) -> u64
     ensures { λ r. ⌜ r ≡ sealedCode len ⌝ }
 {
     if len == 0 {
-        return 0;
+        return Flat::EMPTY as u64;
     }
-    1
+    Flat::SEALED as u64
 }
 
 fn sealed_start(len: usize) -> u64
@@ -125,7 +126,24 @@ fn stamped_numbers(kind: u8, hops: u8, mic: u32, time: u32, relay: u32, len: usi
 fn lora_numbers(len: usize) -> [u64; 16]
     ensures { λ r. ⌜ r ≡ numbersOf (loraFlat len) ⌝ }
 {
-    [4, 0, 0, 0, 0, 0, 0, 0, 0, 0, 0, 0, 0, 0, 0, len as u64]
+    [
+        Flat::LORA as u64,
+        0,
+        0,
+        0,
+        0,
+        0,
+        0,
+        0,
+        0,
+        0,
+        0,
+        0,
+        0,
+        0,
+        0,
+        len as u64,
+    ]
 }
 
 // ---- a body, by the reader of its type: 4 with nothing changed, or 0
@@ -153,7 +171,7 @@ fn uplink(
         hops,
         mic,
         m,
-        four(body, 5),
+        four(body, UplinkMetadata::LENGTH),
         body.len() - UplinkPayload::LEAST,
     );
     *rssi = strength;
@@ -182,7 +200,7 @@ fn downlink(
         hops,
         mic,
         m,
-        four(body, 6),
+        four(body, DownlinkMetadata::LENGTH),
         body.len() - DownlinkPayload::LEAST,
     );
     *rssi = 0;

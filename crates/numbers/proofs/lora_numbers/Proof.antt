@@ -1,6 +1,7 @@
 -- `numbers::lora_numbers` meets its contract. Assumes nothing.
 use mathlib.Core.Path.{refl}
 use Rattle.flat.specs.Flat.{numbersOf}
+use borrow.Author.Needs.{needs}
 use Rattle.numbers.proofs.lora_numbers.Statement.{statement}
 use Rattle.numbers.proofs.lora_numbers.Tie as tie
 
@@ -10,4 +11,4 @@ returns c =
     refl
 
 pub lora-numbers-spec : {M : Type 1} → statement M
-lora-numbers-spec = tie.close (tie.spec returns)
+lora-numbers-spec = tie.close (tie.spec (λ c. search needs) returns)

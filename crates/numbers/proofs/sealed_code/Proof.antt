@@ -3,6 +3,7 @@ use mathlib.Core.Path.{sym, ap}
 use Rattle.bodies.specs.declared.body.Body.{Body}
 use Rattle.flat.specs.Flat.{placeOf}
 use Rattle.numbers.proofs.Steps.{sealed-none, sealed-some}
+use borrow.Author.Needs.{needs}
 use Rattle.numbers.proofs.sealed_code.Statement.{statement}
 use Rattle.numbers.proofs.sealed_code.Tie as tie
 
@@ -15,4 +16,4 @@ returns-2 c =
     sym (ap (λ (b : Body). placeOf b .body) (sealed-some _ (c .if1 .left)))
 
 pub sealed-code-spec : {M : Type 1} → statement M
-sealed-code-spec = tie.close (tie.spec returns returns-2)
+sealed-code-spec = tie.close (tie.spec (λ c. search needs) returns (λ c. search needs) returns-2)
