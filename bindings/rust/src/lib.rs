@@ -59,8 +59,11 @@ pub const CACHE_MOST: usize = 64;
 /// The bytes of the longest text of a frame.
 pub const TEXT_MOST: usize = 90;
 
-/// A run of a slice. What the library names lies in its slice; anything else is refused as it would refuse it.
+/// A run of a slice. What the library names lies in its slice; anything else is refused as it would refuse it, and a run of no bytes never is.
 fn part(whole: &[u8], start: u64, len: u64) -> Result<&[u8], Refusal> {
+    if len == 0 {
+        return Ok(&[]);
+    }
     let inside = || {
         let start = usize::try_from(start).ok()?;
         let end = start.checked_add(usize::try_from(len).ok()?)?;
@@ -77,8 +80,11 @@ mod tests {
     fn parts_lie_inside() {
         let b = [1, 2, 3];
         assert_eq!(part(&b, 0, 3), Ok(&b[..]));
-        assert_eq!(part(&b, 3, 0), Ok(&[][..]));
-        for (start, len) in [(0, 4), (4, 0), (u64::MAX, 1), (1, u64::MAX), (u64::MAX, u64::MAX)] {
+        assert_eq!(part(&b, 2, 1), Ok(&b[2..]));
+        for start in [0, 3, 4, u64::MAX] {
+            assert_eq!(part(&b, start, 0), Ok(&[][..]));
+        }
+        for (start, len) in [(0, 4), (3, 1), (4, 1), (u64::MAX, 1), (1, u64::MAX), (u64::MAX, u64::MAX)] {
             assert_eq!(part(&b, start, len), Err(Refusal::Outside));
         }
     }
