@@ -173,9 +173,11 @@ def pieces(text):
     return [p.strip() for p in out if p.strip()]
 
 class Function:
-    """A function of a source: its crate, module and type, what it takes and answers by name, and its body."""
-    def __init__(self, crate, module, owner, name, takes, answers, body):
+    """A function of a source: its crate, module and type, what it takes and answers by name, its body, and whether others start there: a
+    program's `main`, or what is exported for C."""
+    def __init__(self, crate, module, owner, name, takes, answers, body, first=False):
         self.crate, self.module, self.owner, self.name, self.takes, self.answers, self.body = crate, module, owner, name, takes, answers, body
+        self.first = first
     # as docs/PROMISES.md writes it
     said = property(lambda self: self.owner + '::' * bool(self.owner) + self.name)
 
@@ -213,7 +215,8 @@ class Sources:
                 if answers: at = answers.end()
                 while c := re.compile(r'\s*(?:requires|ensures|ghost)\b[^{]*\{').match(text, at): at = skip(text, c.end() - 1)
                 at = text.find('{', at)
-                self.functions.append(Function(crate, module, owner, m[1], takes, inner(answers[1]) if answers else '', text[at:skip(text, at)]))
+                first = owner + m[1] == 'main' or text.endswith('extern "C" ', 0, m.start())
+                self.functions.append(Function(crate, module, owner, m[1], takes, inner(answers[1]) if answers else '', text[at:skip(text, at)], first))
         self.calls = {}
 
     def named(self, crate, module, path):
@@ -293,9 +296,9 @@ class Sources:
         self.calls[f] = found
         return found
 
-    def callable(self, program):
-        """What a program's `main` may call, with what that may call, as (crate, `Type::name`)."""
-        ahead, seen = [f for f in self.functions if (f.crate, f.said) == (program, 'main')], set()
+    def callable(self, crate):
+        """What a crate's `main` or its exported functions may call, with what that may call and they themselves, as (crate, `Type::name`)."""
+        ahead, seen = [f for f in self.functions if f.crate == crate and f.first], set()
         while ahead:
             f = ahead.pop()
             if f in seen: continue
