@@ -182,9 +182,9 @@ class Function:
     said = property(lambda self: self.owner + '::' * bool(self.owner) + self.name)
 
 def inner(kind):
-    """The name of the type behind references and lifetimes; '' of a slice or an array."""
-    m = re.fullmatch(r"(?:&\s*)?(?:'\w+\s+)?(?:mut\s+)?([\w:]+)(?:<.*>)?", (kind or '').strip())
-    return m[1].split('::')[-1] if m else ''
+    """The name of the type behind references and lifetimes; of a slice or an array that of its parts, in brackets."""
+    m = re.fullmatch(r"(?:&\s*)?(?:'\w+\s+)?(?:mut\s+)?(?:([\w:]+)(?:<.*>)?|\[(.*?)(?:;[^;\]]*)?\])", (kind or '').strip(), re.S)
+    return '' if not m else m[1].split('::')[-1] if m[1] else f'[{inner(m[2])}]'
 
 class Sources:
     """The functions of the crates under a folder, and which a program can call: by names, without a compiler. A call's name is looked up in its
@@ -238,16 +238,16 @@ class Sources:
         for part in pieces(f.takes):
             name, _, kind = part.partition(':')
             put(name.replace('mut', '').strip(), inner(kind))
-        for _ in range(3):
-            for m in re.finditer(r'\blet\s+(?:mut\s+)?(\w+)\s*(?::\s*([^=;]+))?=\s*(?:&\s*)?(?:mut\s+)?', f.body):
-                if m[2]: put(m[1], inner(m[2]))
-                else:
-                    for kind in self.kinds(f, env, m.end()): put(m[1], kind)
         for m in re.finditer(r'\b(?:(\w+)::)?(\w+)\s*([({])([^(){}]*)[)}]\s*(?==>|=(?!=)|\|)', f.body):
             of = (m[1].replace('Self', f.owner) + '::' if m[1] else '') + m[2]
             for k, one in enumerate(pieces(m[4])):
                 field, _, name = one.partition(':') if m[3] == '{' else (str(k), '', one)
                 put((name or field).strip(), self.fields.get((of, field.strip())))
+        for _ in range(3):
+            for m in re.finditer(r'\blet\s+(?:mut\s+)?(\w+)\s*(?::\s*([^=;]+))?=\s*(?:&\s*)?(?:mut\s+)?', f.body):
+                if m[2]: put(m[1], inner(m[2]))
+                else:
+                    for kind in self.kinds(f, env, m.end()): put(m[1], kind)
         return env
 
     def kinds(self, f, env, at):
@@ -264,13 +264,13 @@ class Sources:
             at = skip(f.body, f.body.find('{', at))
             here = {path[-2] if len(path) > 1 and path[-2][:1].isupper() else path[-1]}
         else: here = set(env.get(path[-1], ()))
-        while m := re.compile(r'\s*\.\s*(\w+)').match(f.body, at):
+        while m := re.compile(r'\s*\.\s*(\w+)|\[').match(f.body, at):
             at = m.end()
-            if f.body[at:at + 1] == '(':
+            if not m[1]: at, here = skip(f.body, m.start(), '[]'), {kind[1:-1] for kind in here if kind[:1] == '['}
+            elif f.body[at:at + 1] == '(':
                 at = skip(f.body, at, '()')
                 here = {g.answers for g in self.functions if g.owner in here and g.name == m[1]}
             else: here = {self.fields.get((kind, m[1]), '') for kind in here}
-        if f.body[at:at + 1] == '[': return set()
         return here - {''}
 
     def callees(self, f):
@@ -284,7 +284,7 @@ class Sources:
         for m in re.finditer(r'\.\s*(\w+)\(', f.body):
             at = m.start()
             # back to where what it is called on begins
-            while at and (f.body[at - 1].isalnum() or f.body[at - 1] in '_.:)]'):
+            while at and (f.body[at - 1].isalnum() or f.body[at - 1] in '_.:)]' or f.body[at - 1].isspace() and f.body[at] in '. \n'):
                 at -= 1
                 deep = f.body[at] in ')]'
                 while deep and at:
