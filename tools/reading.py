@@ -186,6 +186,12 @@ def inner(kind):
     m = re.fullmatch(r"(?:&\s*)?(?:'\w+\s+)?(?:mut\s+)?(?:([\w:]+)(?:<.*>)?|\[(.*?)(?:;[^;\]]*)?\])", (kind or '').strip(), re.S)
     return '' if not m else m[1].split('::')[-1] if m[1] else f'[{inner(m[2])}]'
 
+@functools.cache
+def c_functions(path):
+    """The functions that a file in C defines, each with the words of its body."""
+    text = re.sub(r'/\*.*?\*/|//[^\n]*|"(?:\\.|[^"\\\n])*"', ' ', path.read_text(), flags=re.S)
+    return {m[1]: set(re.findall(r'\w+', text[m.end():skip(text, m.end() - 1)])) for m in re.finditer(r'^\w[^;{}()]*\b(\w+)\([^;{}]*?\)\s*\{', text, re.M)}
+
 class Sources:
     """The functions of the crates under a folder, and which a program can call: by names, without a compiler. A call's name is looked up in its
     file, by the file's `use` lines and in its crate; a method by the type of what it is called on, as far as that is told by parameters, `let`,
@@ -296,9 +302,9 @@ class Sources:
         self.calls[f] = found
         return found
 
-    def callable(self, crate):
-        """What a crate's `main` or its exported functions may call, with what that may call and they themselves, as (crate, `Type::name`)."""
-        ahead, seen = [f for f in self.functions if f.crate == crate and f.first], set()
+    def callable(self, crate, names):
+        """What a crate's `main` or its exported functions of these names may call, with what that may call and they themselves, as (crate, `Type::name`)."""
+        ahead, seen = [f for f in self.functions if f.crate == crate and f.first and f.name in names], set()
         while ahead:
             f = ahead.pop()
             if f in seen: continue
