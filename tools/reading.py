@@ -173,16 +173,24 @@ def pieces(text):
     return [p.strip() for p in out if p.strip()]
 
 class Function:
-    """A function of a source: its crate, module and type, what it takes and answers by name, and its body."""
-    def __init__(self, crate, module, owner, name, takes, answers, body):
+    """A function of a source: its crate, module and type, what it takes and answers by name, its body, and whether others start there: a
+    program's `main`, or what is exported for C."""
+    def __init__(self, crate, module, owner, name, takes, answers, body, first=False):
         self.crate, self.module, self.owner, self.name, self.takes, self.answers, self.body = crate, module, owner, name, takes, answers, body
+        self.first = first
     # as docs/PROMISES.md writes it
     said = property(lambda self: self.owner + '::' * bool(self.owner) + self.name)
 
 def inner(kind):
-    """The name of the type behind references and lifetimes; '' of a slice or an array."""
-    m = re.fullmatch(r"(?:&\s*)?(?:'\w+\s+)?(?:mut\s+)?([\w:]+)(?:<.*>)?", (kind or '').strip())
-    return m[1].split('::')[-1] if m else ''
+    """The name of the type behind references and lifetimes; of a slice or an array that of its parts, in brackets."""
+    m = re.fullmatch(r"(?:&\s*)?(?:'\w+\s+)?(?:mut\s+)?(?:([\w:]+)(?:<.*>)?|\[(.*?)(?:;[^;\]]*)?\])", (kind or '').strip(), re.S)
+    return '' if not m else m[1].split('::')[-1] if m[1] else f'[{inner(m[2])}]'
+
+@functools.cache
+def c_functions(path):
+    """The functions that a file in C defines, each with the words of its body."""
+    text = re.sub(r'/\*.*?\*/|//[^\n]*|"(?:\\.|[^"\\\n])*"', ' ', path.read_text(), flags=re.S)
+    return {m[1]: set(re.findall(r'\w+', text[m.end():skip(text, m.end() - 1)])) for m in re.finditer(r'^\w[^;{}()]*\b(\w+)\([^;{}]*?\)\s*\{', text, re.M)}
 
 class Sources:
     """The functions of the crates under a folder, and which a program can call: by names, without a compiler. A call's name is looked up in its
@@ -213,7 +221,8 @@ class Sources:
                 if answers: at = answers.end()
                 while c := re.compile(r'\s*(?:requires|ensures|ghost)\b[^{]*\{').match(text, at): at = skip(text, c.end() - 1)
                 at = text.find('{', at)
-                self.functions.append(Function(crate, module, owner, m[1], takes, inner(answers[1]) if answers else '', text[at:skip(text, at)]))
+                first = owner + m[1] == 'main' or text.endswith('extern "C" ', 0, m.start())
+                self.functions.append(Function(crate, module, owner, m[1], takes, inner(answers[1]) if answers else '', text[at:skip(text, at)], first))
         self.calls = {}
 
     def named(self, crate, module, path):
@@ -235,16 +244,16 @@ class Sources:
         for part in pieces(f.takes):
             name, _, kind = part.partition(':')
             put(name.replace('mut', '').strip(), inner(kind))
-        for _ in range(3):
-            for m in re.finditer(r'\blet\s+(?:mut\s+)?(\w+)\s*(?::\s*([^=;]+))?=\s*(?:&\s*)?(?:mut\s+)?', f.body):
-                if m[2]: put(m[1], inner(m[2]))
-                else:
-                    for kind in self.kinds(f, env, m.end()): put(m[1], kind)
         for m in re.finditer(r'\b(?:(\w+)::)?(\w+)\s*([({])([^(){}]*)[)}]\s*(?==>|=(?!=)|\|)', f.body):
             of = (m[1].replace('Self', f.owner) + '::' if m[1] else '') + m[2]
             for k, one in enumerate(pieces(m[4])):
                 field, _, name = one.partition(':') if m[3] == '{' else (str(k), '', one)
                 put((name or field).strip(), self.fields.get((of, field.strip())))
+        for _ in range(3):
+            for m in re.finditer(r'\blet\s+(?:mut\s+)?(\w+)\s*(?::\s*([^=;]+))?=\s*(?:&\s*)?(?:mut\s+)?', f.body):
+                if m[2]: put(m[1], inner(m[2]))
+                else:
+                    for kind in self.kinds(f, env, m.end()): put(m[1], kind)
         return env
 
     def kinds(self, f, env, at):
@@ -261,13 +270,13 @@ class Sources:
             at = skip(f.body, f.body.find('{', at))
             here = {path[-2] if len(path) > 1 and path[-2][:1].isupper() else path[-1]}
         else: here = set(env.get(path[-1], ()))
-        while m := re.compile(r'\s*\.\s*(\w+)').match(f.body, at):
+        while m := re.compile(r'\s*\.\s*(\w+)|\[').match(f.body, at):
             at = m.end()
-            if f.body[at:at + 1] == '(':
+            if not m[1]: at, here = skip(f.body, m.start(), '[]'), {kind[1:-1] for kind in here if kind[:1] == '['}
+            elif f.body[at:at + 1] == '(':
                 at = skip(f.body, at, '()')
                 here = {g.answers for g in self.functions if g.owner in here and g.name == m[1]}
             else: here = {self.fields.get((kind, m[1]), '') for kind in here}
-        if f.body[at:at + 1] == '[': return set()
         return here - {''}
 
     def callees(self, f):
@@ -281,7 +290,7 @@ class Sources:
         for m in re.finditer(r'\.\s*(\w+)\(', f.body):
             at = m.start()
             # back to where what it is called on begins
-            while at and (f.body[at - 1].isalnum() or f.body[at - 1] in '_.:)]'):
+            while at and (f.body[at - 1].isalnum() or f.body[at - 1] in '_.:)]' or f.body[at - 1].isspace() and f.body[at] in '. \n'):
                 at -= 1
                 deep = f.body[at] in ')]'
                 while deep and at:
@@ -293,9 +302,9 @@ class Sources:
         self.calls[f] = found
         return found
 
-    def callable(self, program):
-        """What a program's `main` may call, with what that may call, as (crate, `Type::name`)."""
-        ahead, seen = [f for f in self.functions if (f.crate, f.said) == (program, 'main')], set()
+    def callable(self, crate, names):
+        """What a crate's `main` or its exported functions of these names may call, with what that may call and they themselves, as (crate, `Type::name`)."""
+        ahead, seen = [f for f in self.functions if f.crate == crate and f.first and f.name in names], set()
         while ahead:
             f = ahead.pop()
             if f in seen: continue

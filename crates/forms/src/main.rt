@@ -1,5 +1,6 @@
 // Calls the forms that document 01 names and that no other program reaches: the cache's `add` in place, a heartbeat's path into and from a
-// lent list of records, and an item's value as a part of what holds it. It prints a line for each; the gate compares with the file stdout.
+// lent list of records, and an item's value as a part of what holds it. And what the layers above have no use for: a packet's record and its
+// plain struct, the least and largest values, numbers of two bytes. It prints a line for each; the gate compares with the file stdout.
 mod lent;
 
 use base::Checked;
@@ -9,8 +10,17 @@ use bodies::Held;
 use cache::Cache;
 use cache::CacheAnswer;
 use cache::PayloadCache;
+use fields::Channel;
+use fields::Dr;
+use fields::Frequency;
+use fields::Mic;
 use fields::PayloadType;
+use fields::RelayId;
 use fields::RelayPath;
+use fields::Timestamp;
+use fields::TxPower;
+use fields::UplinkId;
+use flat::Flat;
 use heartbeats::HeartbeatPayload;
 use heartbeats::HeartbeatRead;
 use heartbeats::PathRead;
@@ -19,7 +29,13 @@ use items::Item;
 use items::ItemKind;
 use items::ItemRead;
 use libc::STDOUT_FILENO;
+use packets::MeshPacket;
+use packets::MeshRead;
+use packets::Packet;
+use packets::PacketRead;
 use wire::Run;
+use wire::be16_bytes;
+use wire::be16_of;
 use wire::part;
 use wire::write_hex;
 
@@ -229,6 +245,98 @@ fn values() {
     };
     value(b"value past the payload   ", in_frame, longer, frame, work);
     value(b"value of another payload ", in_work, longer, frame, work);
+    let sealed = Item::sealed(Run { start: 2, len: 3 });
+    plain(b"a sealed run's type      ", sealed.get_type() as u64);
+    value(b", value ", in_work, sealed, frame, work);
+}
+
+// ---- a packet's record, and a packet as a plain struct
+fn known(label: &[u8], r: PayloadCache) {
+    let p_type = r.p_type;
+    say(label);
+    plain(b"type ", p_type.to_byte() as u64);
+    plain(b", id ", r.uplink_id as u64);
+    plain(b", time ", r.timestamp as u64);
+    plain(b", relay ", r.relay_id as u64);
+    say(b"\n");
+}
+
+fn recorded(label: &[u8], frame: &[u8]) {
+    match MeshPacket::from_slice(frame) {
+        MeshRead::Mesh(p) => known(label, PayloadCache::from_packet(p)),
+        MeshRead::Refused(n) => plain(label, n as u64),
+    }
+}
+
+fn plainly(label: &[u8], f: Flat) {
+    plain(label, f.kind as u64);
+    plain(b", hops ", f.hop_count as u64);
+    plain(b", mic ", f.mic as u64);
+    plain(b", payload at ", f.start);
+    plain(b", bytes ", f.len);
+    say(b"\n");
+}
+
+fn flattened(label: &[u8], frame: &[u8]) {
+    match Packet::from_slice(frame) {
+        PacketRead::Packet(p) => plainly(label, Flat::of(p)),
+        PacketRead::Refused(n) => plain(label, n as u64),
+    }
+}
+
+fn packets() {
+    let uplink = b"\xe0\x12\x35\x50\x07\x02\x0a\x0b\x0c\x0d\x40\x00\x00\x01\x02";
+    recorded(b"record of an uplink      ", uplink);
+    recorded(
+        b"record of an event       ",
+        b"\xf0\x00\x00\x00\x3c\x0a\x0b\x0c\x0d\x00\x00\x01\x02",
+    );
+    // of the type's bits two count
+    known(
+        b"record of three words    ",
+        PayloadCache::unpack([0x00070fff, 60, 0x0a0b0c0d]),
+    );
+    flattened(b"an uplink, kind          ", uplink);
+    flattened(b"a LoRa frame, kind       ", b"\x40\x01\x02");
+}
+
+// ---- the least and the largest value of a field, and numbers of two bytes
+fn range(label: &[u8], least: u64, most: u64) {
+    plain(label, least);
+    plain(b" to ", most);
+    say(b"\n");
+}
+
+fn words() {
+    let r = RelayId::limits();
+    range(b"relay id                 ", r[0] as u64, r[1] as u64);
+    let t = Timestamp::limits();
+    range(b"timestamp                ", t[0] as u64, t[1] as u64);
+    let m = Mic::limits();
+    range(b"mic                      ", m[0] as u64, m[1] as u64);
+}
+
+fn limits() {
+    let t = PayloadType::limits();
+    range(b"payload type             ", t[0] as u64, t[1] as u64);
+    let u = UplinkId::limits();
+    range(b"uplink id                ", u[0] as u64, u[1] as u64);
+    let d = Dr::limits();
+    range(b"dr                       ", d[0] as u64, d[1] as u64);
+    let c = Channel::limits();
+    range(b"channel                  ", c[0] as u64, c[1] as u64);
+    let p = TxPower::limits();
+    range(b"tx power                 ", p[0] as u64, p[1] as u64);
+    let f = Frequency::limits();
+    range(b"frequency                ", f[0] as u64, f[1] as u64);
+    range(b"frequency, written       ", f[0] as u64, f[2] as u64);
+    words();
+}
+
+fn two_bytes() {
+    plain(b"0f a1                    ", be16_of(0x0f, 0xa1) as u64);
+    hex(b", and back ", &be16_bytes(4001));
+    say(b"\n");
 }
 
 fn main() {
@@ -238,4 +346,7 @@ fn main() {
     paths();
     entries();
     values();
+    packets();
+    limits();
+    two_bytes();
 }
