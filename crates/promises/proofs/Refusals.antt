@@ -575,7 +575,8 @@ reach n start len =
 
 -- ---- all of them
 
--- no refusal of a public call carries 0, whatever it is given
+-- no refusal of a public call carries 0, whatever it is given; a call whose answer is a number alone (`refusal`, `kinds_refusal`) says 0 for
+-- none, and has no refusal that could carry it
 pub record NoZero : Type 0 where
   -- keys
   pub from-slice : (s : List ℕ) → Numbered (keySays (keyFromSlice s))
