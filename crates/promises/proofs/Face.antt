@@ -1,13 +1,15 @@
 -- The face for C, over the definitions that the contracts of crate mesh_c are equations with. Its answer is 0 exactly if the call below
 -- accepts. Whatever other number it answers, 255 of `mesh_decode` too, every place that was lent to it is as before. Assumes nothing.
-use Prim.Native.Nat.{ℕ}
+use Prim.Native.Nat.{ℕ, _<_}
 use native.Mathlib.Omega.{arith}
 use mathlib.Core.Bool.{Bool, true, false, not}
 use mathlib.Core.Path.{_≡_, refl, sym, _∙_}
 use mathlib.Core.List.{List, _++_}
 use lib.Dec.{ltb, eqb}
 use lib.ListN.{length, drop}
+use borrow.Author.Tests.{lt-ltb, le-ltb, ne-eqb}
 use Rattle.base.specs.Pick.{pick}
+use Rattle.base.specs.Numbers.{typeLarge}
 use Rattle.base.specs.Answers.{Answer, value, number, numberIn, leftBy, Frame, bytes, refused, answerOf, outOf, writtenSays, checkedOf, checkedNumber, checkedSays}
 use Rattle.base.specs.declared.Checked.{Checked}
 use Rattle.base.specs.declared.Checked.the-variants as checked
@@ -327,6 +329,13 @@ no-refusal-is-0-for-c =
       flat-packet = packet-numbered;
       mesh-cache-add = λ w id time relay n. added-numbered w id time relay (typeRead n) (type-numbered n);
     }
+
+-- 29 of a body that is none, of an event or a command, before all else that its numbers say
+pub strange-body-refused : (f : Flat) → 1 < f .kind → 4 < f .body
+    → (meshSays (meshFrom f) ≡ number typeLarge) × ((f .kind ≡ 4 → ⊥) → packetSays (packetFrom f) ≡ number typeLarge)
+unfolding meshFrom strangeBody packetFrom
+strange-body-refused f k b =
+    (simp (le-ltb (f .kind) 2 k, lt-ltb 4 (f .body) b), λ n. simp (ne-eqb (f .kind) 4 n, le-ltb (f .kind) 2 k, lt-ltb 4 (f .body) b))
 
 -- so each of the three ways in which the face gives its number is 0 exactly if the call accepted
 pub zero-is-success : {A : Type 0} (a : Answer A) → Numbered a → (numberIn a ≡ 0 → Accepts a) × (Accepts a → numberIn a ≡ 0)

@@ -6,5 +6,6 @@ pub mod Demand2
 pub mod Signing
 pub mod Demand3
 pub mod Rules
+pub mod Limits
 pub mod Dump
 pub mod Face

@@ -13,6 +13,7 @@ use Rattle.base.specs.Pick.{pick}
 use Rattle.base.specs.Lists.{firstOf}
 use Rattle.base.specs.Numbers.{micMissing, frameMost, messageMost, bodyMost, payloadMost, pathMost, cacheMost}
 use Rattle.base.specs.Answers.{Answer, value, number, numberIn, Frame, bytes, refused, unlessRefused, checkedOf, answerOf, writtenSays, checkedSays}
+use Rattle.wire.specs.Part.{reachOf}
 use Rattle.aes128.specs.Key.{keyFromSlice, keyFromText, keySays}
 use Rattle.fields.specs.Header.{typeRead, typed, headerOf, headerByte, typeSays, headerSays, byteSays}
 use Rattle.fields.specs.Freq.{halvedOf, stepsOf, stepsWire, freqWire, freqBytes, freqRead, stepsSays, freqSays}
@@ -95,7 +96,7 @@ use Rattle.cache.specs.declared.ring.Cache.{Cache}
 use Rattle.cache.specs.declared.ring.CacheNew.{CacheNew}
 use Rattle.cache.specs.declared.ring.Added.{Added}
 use Rattle.packed.specs.Packed.{sizeIn, countIn, isBelow, clearAnswer, addAnswer}
-use Rattle.promises.specs.Said.{Accepts, Numbered}
+use Rattle.promises.specs.Said.{Accepts, Numbered, reachSays}
 
 -- ---- what the number of an answer says
 
@@ -567,13 +568,21 @@ added-word w r =
     picked addSays (ltb (sizeIn w) 1) _ _ (omega arith)
     (picked addSays (ltb cacheMost (sizeIn w)) _ _ (omega arith) (picked addSays (isBelow w (packOf r) (countIn w)) _ _ tt tt))
 
+reach : (n start len : ℕ) → Numbered (reachSays (reachOf n start len))
+unfolding reachOf
+reach n start len =
+    picked reachSays (eqb len 0) _ _ tt (picked reachSays (ltb n start) _ _ (omega arith) (picked reachSays (ltb (n - start) len) _ _ (omega arith) tt))
+
 -- ---- all of them
 
--- no refusal of a public call carries 0, whatever it is given
+-- no refusal of a public call carries 0, whatever it is given; a call whose answer is a number alone (`refusal`, `kinds_refusal`) says 0 for
+-- none, and has no refusal that could carry it
 pub record NoZero : Type 0 where
   -- keys
   pub from-slice : (s : List ℕ) → Numbered (keySays (keyFromSlice s))
   pub from-str : (s : List ℕ) → Numbered (keySays (keyFromText s))
+  -- a place in a list
+  pub reaches : (n start len : ℕ) → Numbered (reachSays (reachOf n start len))
   -- what only 21 is asked of: keys and their text, frames and lines dumped
   pub of-bytes : (w out : List ℕ) → Numbered (writtenSays (answerOf (bytes w) out))
   -- fields
@@ -633,6 +642,7 @@ no-refusal-is-0 =
     record {
       from-slice = key-bytes;
       from-str = key-text;
+      reaches = reach;
       of-bytes = λ w out. writes (bytes w) out tt;
       type-from-byte = type-read;
       header-from-byte = header-read;

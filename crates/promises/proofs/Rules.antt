@@ -18,6 +18,7 @@ use Rattle.aes128.specs.Key.{keyOf, keySays, keyFromSlice, keyFromText, signing
 use Rattle.aes128.proofs.Laws.{text-back}
 use Rattle.fields.specs.Header.{typeRead, codeOf, headerOf, headerByte, typeSays, headerSays, byteSays}
 use Rattle.fields.specs.Freq.{halvedOf, stepsOf, freqWire, hertzOf, freqRead, freqSays, stepsSays}
+use Rattle.fields.specs.Limits.{hertzLeast, hertzWritten, stepsMost}
 use Rattle.fields.specs.Signal.{rssiOf, rssiByte, snrOf, snrByte, signalSays}
 use Rattle.fields.specs.Meta.{upOf, upWire, downOf, downWire}
 use Rattle.fields.specs.Path.{pathOf, pathWire}
@@ -27,14 +28,16 @@ use Rattle.fields.specs.declared.meta.UplinkMetadata.{UplinkMetadata}
 use Rattle.fields.specs.declared.path.RelayPath.{RelayPath}
 use Rattle.fields.proofs.Laws.Header.{type-back, header-back, header-again, not-marked}
 use Rattle.fields.proofs.Laws.Freq.{freq-again}
+use Rattle.fields.proofs.Laws.Limits.{written-within, both-written}
 use Rattle.fields.proofs.Laws.Signal.{rssi-back, rssi-again, snr-back, snr-again}
 use Rattle.fields.proofs.Laws.Meta.{up-back, up-again, down-again}
 use Rattle.fields.proofs.Laws.Path.{path-back, path-again}
 use Rattle.heartbeats.specs.Heartbeat.{pathsOf, beatRefusal, beatOf, entryRead, beatWire, beatSays, pathSays, noPath, FourByteIds}
 use Rattle.heartbeats.specs.declared.heartbeat.HeartbeatPayload.{HeartbeatPayload}
 use Rattle.heartbeats.proofs.Laws.{refused-entries, taken-entries, beat-back}
-use Rattle.items.specs.Items.{badBeat, itemAt, Turn, walkedTo, noItem, itemSays, listedItems}
-use Rattle.items.proofs.Laws.{turn, walk-ends}
+use Rattle.items.specs.Items.{badBeat, itemAt, Turn, walkedTo, keptItem, noItem, itemSays, listedItems}
+use Rattle.items.specs.declared.item.Item.{Item}
+use Rattle.items.proofs.Laws.{turn, walk-ends, kept-whole}
 use Rattle.kept.specs.Kept.{openBytes}
 use Rattle.composed.specs.Composed.{composedWire, lentBack}
 use Rattle.composed.proofs.Again.{written-back}
@@ -42,7 +45,7 @@ use Rattle.packets.specs.Read.{meshOf, meshSays}
 use Rattle.trips.specs.Which.{leastFrame, meshNumber}
 use Rattle.cache.specs.Cache.{newOf}
 use Rattle.promises.specs.Said.{Accepts}
-use Rattle.promises.proofs.Said.{header-said, byte-said, signal-said}
+use Rattle.promises.proofs.Said.{header-said, byte-said, signal-said, steps-said, item-said}
 use Rattle.promises.proofs.Demand2.{mesh-reader-reads, mesh-reader-refuses}
 
 -- ---- the header byte
@@ -104,6 +107,13 @@ frequency-too-large f h = simp (lt-ltb 16777215 (halvedOf f / 100) h)
 pub frequency-no-step : (f : ℕ) → halvedOf f / 100 ≤ 16777215 → (halvedOf f % 100 ≡ 0 → ⊥) → stepsSays (stepsOf f) ≡ number frequencyStep
 unfolding stepsOf
 frequency-no-step f h e = simp (le-ltb 16777215 (halvedOf f / 100) h, ne-eqb (halvedOf f % 100) 0 e)
+
+-- what is written lies up to 3,355,443,001 Hz, 1 Hz over the most that is read, and both ends are written
+pub frequency-written-within : (f n : ℕ) → stepsSays (stepsOf f) ≡ value n → f ≤ hertzWritten
+frequency-written-within f n e = written-within f n (steps-said (stepsOf f) n e)
+
+pub frequency-ends-written : (stepsSays (stepsOf hertzLeast) ≡ value 0) × (stepsSays (stepsOf hertzWritten) ≡ value stepsMost)
+frequency-ends-written = (ap stepsSays (both-written .0), ap stepsSays (both-written .1))
 
 -- three bytes of frequency, read and written, are the same bytes; 28: not 3 bytes
 pub frequency-read-then-written : (a b c : ℕ) → a < 256 → b < 256 → c < 256 → freqWire (hertzOf a b c) ≡ bytes (a ∷ b ∷ c ∷ [])
@@ -188,6 +198,11 @@ derived-keys root = (refl, refl)
 -- the first of the payload's pieces from there, and where the next begins
 pub one-item-at-a-time : (ev : Bool) (s : List ℕ) (at : ℕ) → Turn ev s at (itemAt ev s at)
 one-item-at-a-time ev s at = turn ev s at (itemAt ev s at) refl
+
+-- what is kept is no heartbeat whose length is no whole number of entries
+pub kept-item-is-whole : (ev : Bool) (s : List ℕ) (at : ℕ) (i : Item) (next : ℕ) → itemSays (itemAt ev s at) ≡ value (keptItem i next)
+    → badBeat ev (getD s at 0) (getD s (at + 1) 0) ≡ false
+kept-item-is-whole ev s at i next e = kept-whole ev s at i next (item-said (itemAt ev s at) i next e)
 
 -- whoever goes from each item to the place behind it comes to the end, after no more steps than the payload has bytes
 pub walk-by-items-ends : (ev : Bool) (s : List ℕ) → itemSays (itemAt ev s (walkedTo ev s (length s) 0)) ≡ value (noItem (length s))

@@ -1,5 +1,5 @@
 -- Signing and validating, over any block cipher E. Assumes nothing.
-use Prim.Native.Nat.{ℕ}
+use Prim.Native.Nat.{ℕ, zero, suc}
 use native.Mathlib.Omega.{arith}
 use mathlib.Core.Bool.{Bool, true, false}
 use mathlib.Core.Path.{_≡_, refl, sym, ap, _∙_}
@@ -9,13 +9,24 @@ use lib.ListN.{length}
 use Rattle.base.specs.Pick.{pick}
 use borrow.Author.Tests.{eq-eqb, ne-eqb, eqb-true, eqb-false}
 use Rattle.base.specs.Numbers.{micMissing, typeLarge}
-use Rattle.base.specs.Answers.{value, number, Frame, bytes, refused, frameNumber, numberIn, answerOf, writtenSays}
+use Rattle.base.specs.Lists.{orElse}
+use Rattle.base.proofs.Answers.{is-refused}
+use Rattle.base.specs.Answers.{value, number, Frame, bytes, refused, unlessRefused, frameNumber, numberIn, answerOf, writtenSays}
 use Rattle.wire.specs.Number.{beBytes}
-use Rattle.bodies.specs.Body.{Lent}
-use Rattle.payloads.specs.Write.{withMic}
+use Rattle.composed.specs.Composed.{verdictOf}
+use Rattle.composed.proofs.Laws.{kinds-29}
+use Rattle.bodies.specs.Body.{Lent, bodyKinds, bodyRefusal, bodyWire}
+use Rattle.bodies.specs.declared.body.Body.{Body}
+use Rattle.bodies.specs.declared.body.Body.the-variants.{Empty, Sealed, Open, Items}
+use Rattle.payloads.specs.Write.{headedBy, limitedOf, withMic}
+use Rattle.events.specs.Write.{stamp, stampedWire, eventWire, commandWire}
+use Rattle.events.specs.Seal.{stampedSeal, eventSeal, eventSealed, commandSeal, commandSealed}
 use Rattle.packets.specs.Read.{meshSays}
-use Rattle.packets.specs.Write.{kindsIn, messageOf, meshFrame}
+use Rattle.packets.specs.Write.{payloadWire, payloadKinds, kindsIn, messageOf, meshFrame}
+use Rattle.packets.specs.Seal.{ofEventSealed, ofCommandSealed, meshSealed}
 use Rattle.packets.proofs.Laws.{message-strange, strange-29}
+use Rattle.packets.specs.declared.mesh.Payload.{Payload}
+use Rattle.packets.specs.declared.mesh.Payload.the-variants as payload
 use Rattle.packets.specs.declared.mesh.MeshPacket.{MeshPacket}
 use Rattle.packets.specs.declared.mesh.MeshRead.the-variants.{Mesh}
 use Rattle.mic.specs.declared.Validated.the-variants.{Valid, Invalid, Refused as NotValidated}
@@ -62,6 +73,43 @@ strange-kind-refused E l p o h =
     let k : kindsIn l p ≡ typeLarge = strange-29 _ _ (p .payload) h in
     let m : messageOf l p ≡ refused typeLarge = message-strange l p (kindsIn l p) refl h ∙ ap refused k in
     (rw m refl, rw m refl, simp (ne-eqb (kindsIn l p) 0 h) (ap number k))
+
+-- so too where they are sealed, and where a body is written alone
+or-first : (k m : ℕ) → (k ≡ 0 → ⊥) → orElse k m ≡ k
+or-first zero m h = absurd (h refl)
+or-first (suc k) m h = refl
+
+module _ (l : Lent) where
+  strange-body : (ev : Bool) (b : Body) → (bodyKinds ev (l .lists .kinds) (l .lists .spans) b ≡ 0 → ⊥) → typeLarge ≡ bodyRefusal ev l b
+  unfolding bodyRefusal bodyKinds verdictOf
+  strange-body ev Empty h = absurd (h refl)
+  strange-body ev (Sealed r) h = absurd (h refl)
+  strange-body ev (Open k r) h = absurd (h refl)
+  strange-body ev (Items n) h = sym (or-first _ _ h ∙ kinds-29 ev (l .lists .kinds) (l .lists .spans) n h)
+
+  body-strange : (ev : Bool) (b : Body) (f : Frame) → (bodyKinds ev (l .lists .kinds) (l .lists .spans) b ≡ 0 → ⊥) → unlessRefused (bodyRefusal ev l b) f ≡ refused typeLarge
+  body-strange ev b f h = sym (is-refused typeLarge (bodyRefusal ev l b) f (strange-body ev b h) (λ z. omega arith))
+
+  wire-strange : (q : Payload) → (payloadKinds (l .lists .kinds) (l .lists .spans) q ≡ 0 → ⊥) → payloadWire l q ≡ refused typeLarge
+  unfolding payloadWire payloadKinds eventWire commandWire stampedWire bodyWire
+  wire-strange (payload.Uplink u) h = absurd (h refl)
+  wire-strange (payload.Downlink u) h = absurd (h refl)
+  wire-strange (payload.Event u) h = ap (headedBy (stamp (u .timestamp) (u .«relay_id»))) (body-strange true (u .events) _ h)
+  wire-strange (payload.Command u) h = ap (headedBy (stamp (u .timestamp) (u .«relay_id»))) (body-strange false (u .commands) _ h)
+
+  seal-strange : (key : List ℕ) (p : MeshPacket) (q : Payload) (o : List ℕ) → (payloadKinds (l .lists .kinds) (l .lists .spans) q ≡ 0 → ⊥) → meshSays (meshSealed key l p q o) ≡ number typeLarge
+  unfolding meshSealed payloadKinds eventSeal commandSeal stampedSeal eventSealed commandSealed answerOf
+  seal-strange key p (payload.Uplink u) o h = absurd (h refl)
+  seal-strange key p (payload.Downlink u) o h = absurd (h refl)
+  seal-strange key p (payload.Event u) o h = ap (λ (f : Frame). meshSays (ofEventSealed p (eventSealed u (answerOf f o)))) (body-strange true (u .events) _ h)
+  seal-strange key p (payload.Command u) o h = ap (λ (f : Frame). meshSays (ofCommandSealed p (commandSealed u (answerOf f o)))) (body-strange false (u .commands) _ h)
+
+  pub strange-kind-not-sealed : (key : List ℕ) (p : MeshPacket) (o : List ℕ) → (kindsIn l p ≡ 0 → ⊥) → meshSays (meshSealed key l p (p .payload) o) ≡ number typeLarge
+  strange-kind-not-sealed key p o h = seal-strange key p (p .payload) o h
+
+  pub strange-kind-not-written-alone : (p : MeshPacket) (o : List ℕ) → (kindsIn l p ≡ 0 → ⊥) → writtenSays (answerOf (limitedOf (payloadWire l (p .payload))) o) ≡ number typeLarge
+  unfolding answerOf
+  strange-kind-not-written-alone p o h = ap (λ (f : Frame). writtenSays (answerOf (limitedOf f) o)) (wire-strange (p .payload) h)
 
 -- "validating: 27, then as signing"
 pub validating-wants-a-mic : (E : List ℕ → List ℕ) (l : Lent) (p : MeshPacket) → kindsIn l p ≡ 0 → p .«has_mic» ≡ false → validSays (validateMic E l p) ≡ number micMissing
