@@ -142,21 +142,20 @@ code-within type.Downlink = (omega arith, omega arith)
 code-within type.Event = (omega arith, omega arith)
 code-within type.Command = (omega arith, omega arith)
 
-module _ (s : List ℕ) (h : Bytes s) where
-  hops-within : (m : MHDR) → headerOf (getD s 0 0) ≡ Header m → Between hopsLeast hopsMost (m .«hop_count»)
-  hops-within m e = let a = accepted m (getD s 0 0) (header-again (getD s 0 0) (h 0) m e) in (a .least, a .most)
+hops-within : (s : List ℕ) → Bytes s → (m : MHDR) → headerOf (getD s 0 0) ≡ Header m → Between hopsLeast hopsMost (m .«hop_count»)
+hops-within s h m e = let a = accepted m (getD s 0 0) (header-again (getD s 0 0) (h 0) m e) in (a .least, a .most)
 
-  pub fields-within : (p : MeshPacket) → meshSays (meshOf s) ≡ value p → PacketWithin p
-  fields-within p e =
-      let r = was-read s p (mesh-said (meshOf s) p e) in
-      let b : Bytes (bodyIn s) = take-lt (length s - 4 - 1) (drop 1 s) (drop-lt 1 s h) in
-      let m : Between 0 4294967295 (p .mic) = rw (r .mic) (four s h (length s - 4)) in
-      record {
-        code = code-within (p .mhdr .«payload_type»);
-        hops = hops-within (p .mhdr) (r .header);
-        fields = payload-within (bodyIn s) b (p .mhdr .«payload_type») (p .payload) (r .body);
-        tag = m;
-      }
+pub fields-within : (s : List ℕ) → Bytes s → (p : MeshPacket) → meshSays (meshOf s) ≡ value p → PacketWithin p
+fields-within s h p e =
+    let r = was-read s p (mesh-said (meshOf s) p e) in
+    let b : Bytes (bodyIn s) = take-lt (length s - 4 - 1) (drop 1 s) (drop-lt 1 s h) in
+    let m : Between 0 4294967295 (p .mic) = rw (r .mic) (four s h (length s - 4)) in
+    record {
+      code = code-within (p .mhdr .«payload_type»);
+      hops = hops-within s h (p .mhdr) (r .header);
+      fields = payload-within (bodyIn s) b (p .mhdr .«payload_type») (p .payload) (r .body);
+      tag = m;
+    }
 
 -- ---- path entries
 
