@@ -10,7 +10,7 @@ use lib.Seq.{drop-cons}
 use Rattle.base.specs.Lists.{Bytes, imap}
 use Rattle.base.proofs.Bytes.{none-lt, append-lt}
 use Rattle.base.proofs.Lists.{_◂_, imap-length}
-use Rattle.cmac.specs.State.{absorb1}
+use Rattle.cmac.specs.inner.State.{absorb1}
 use Rattle.cmac.specs.declared.Mac.{Mac}
 use Rattle.kept.specs.Kept.{headed, fixed, itemBytes}
 

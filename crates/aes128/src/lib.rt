@@ -3,7 +3,7 @@ ghost use mathlib.Core.Path.{_≡_};
 ghost use Rattle.base.specs.Answers.{bytes, answerOf, outOf};
 ghost use Rattle.wire.specs.Hex.{hexText};
 ghost use Rattle.fips197.specs.Aes.{aes};
-ghost use Rattle.cipher.specs.Words.{prepared};
+ghost use Rattle.cipher.specs.inner.Words.{prepared};
 ghost use Rattle.aes128.specs.Key.{keyOf, nullKey, keyRead, keyRefused, keyFromSlice, keyFromText, signingKey, encryptionKey};
 use base::Checked;
 use base::Refusal;

@@ -16,7 +16,7 @@ use Rattle.wire.proofs.Laws.Number.{bytes-of, be-xor}
 use Rattle.cipher.specs.declared.Cols.{Cols}
 use Rattle.fips197.specs.Field.{mul, sboxOf}
 use Rattle.fips197.specs.Aes.{state, at, sboxTable, subBytes, shiftRows, mixed, mixColumns, addRoundKey, keyByte, nextKey, roundKey, round, lastRound, rounds, aes}
-use Rattle.cipher.specs.Words.{word, byteOf, col, loaded, bytesOf, teWord, teTable, keyWords, prepared, firstCol, nextCols, turned, sub, column, lastColumn, keyed, stepped, lastStepped, steps, enciphered}
+use Rattle.cipher.specs.inner.Words.{word, byteOf, col, loaded, bytesOf, teWord, teTable, keyWords, prepared, firstCol, nextCols, turned, sub, column, lastColumn, keyed, stepped, lastStepped, steps, enciphered}
 use Rattle.fips197.proofs.Field.{mul-lt}
 use Rattle.cipher.proofs.Columns.{cols}
 use Rattle.fips197.proofs.Table.{sbox-at, sbox-lt}

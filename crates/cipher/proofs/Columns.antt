@@ -4,7 +4,7 @@ use Prim.Native.Nat.{ℕ, _+_, _*_}
 use mathlib.Core.List.{List}
 use native.Mathlib.Numerals.{add-one}
 use Rattle.cipher.specs.declared.Cols.{Cols}
-use Rattle.cipher.specs.Words.{loaded, keyed, stepped, steps, lastStepped, bytesOf, enciphered}
+use Rattle.cipher.specs.inner.Words.{loaded, keyed, stepped, steps, lastStepped, bytesOf, enciphered}
 
 made : ℕ → ℕ → ℕ → ℕ → Cols
 made a b c d = record { a = a; b = b; c = c; d = d }

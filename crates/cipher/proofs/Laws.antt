@@ -14,7 +14,7 @@ use Rattle.wire.proofs.Laws.Lay.{two-puts, put-whole, Laying, laying-none, layi
 use Rattle.cipher.specs.declared.Cols.{Cols}
 use Rattle.fips197.specs.Field.{xtime}
 use Rattle.fips197.specs.Aes.{aes, sboxTable, rcon, roundKey}
-use Rattle.cipher.specs.Words.{col, loaded, nextCols, teTable, keyWords, prepared, enciphered}
+use Rattle.cipher.specs.inner.Words.{col, loaded, nextCols, teTable, keyWords, prepared, enciphered}
 use Rattle.fips197.proofs.Bytes.{aes-block, rcon-lt, round-key-lt}
 use Rattle.cipher.proofs.Bridge.{table-length, columns-are-bytes, next-is}
 

@@ -9,7 +9,7 @@ use Rattle.wire.specs.Number.{beMore, beOf}
 use Rattle.fips197.specs.Field.{xtime, mulBits, mul, sboxOf}
 use Rattle.fips197.specs.Aes.{sboxTable}
 use Rattle.fips197.proofs.Table.{sbox, sbox-is}
-use Rattle.cipher.specs.Words.{word, teWord, teTable}
+use Rattle.cipher.specs.inner.Words.{word, teWord, teTable}
 
 abbrev pub te : List ℕ
 te =

@@ -4,7 +4,7 @@
 ghost use mathlib.Core.Path.{_≡_};
 ghost use Prim.Native.Nat.{_+_, _≤_};
 ghost use lib.ListN.{length, getD, set};
-ghost use Rattle.cipher.specs.Words.{byteOf, turned, sub, column, lastColumn, loaded, keyed, stepped, lastStepped, bytesOf, nextCols, teTable, keyWords, prepared, enciphered};
+ghost use Rattle.cipher.specs.inner.Words.{byteOf, turned, sub, column, lastColumn, loaded, keyed, stepped, lastStepped, bytesOf, nextCols, teTable, keyWords, prepared, enciphered};
 ghost use Rattle.wire.specs.Lay.{put};
 use fips197::sbox_table;
 use fips197::times2;

@@ -16,7 +16,7 @@ use Rattle.base.specs.Blocks.{Block, Agree}
 use Rattle.base.proofs.Bytes.{append-lt, take-lt, drop-lt, zeros-lt}
 use Rattle.base.proofs.Lists.{_◂_, from-lt, added-none, added-length, added-lt, added-one, added-zeros, added-assoc}
 use Rattle.cmac.specs.Cmac.{zeros, rb, shl, shifted, doubled, k1, k2, blockAt, padded, lastBlock, chain, blocks, tag}
-use Rattle.cmac.specs.State.{addedAt, begun, absorb1, finished}
+use Rattle.cmac.specs.inner.State.{addedAt, begun, absorb1, finished}
 use Rattle.cmac.specs.declared.Mac.{Mac}
 
 -- the padding's zeros change nothing

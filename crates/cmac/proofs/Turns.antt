@@ -12,8 +12,8 @@ use Rattle.base.specs.Lists.{added}
 use Rattle.base.proofs.Lists.{from-zero-at, added-none, added-one, fold-more}
 use Rattle.wire.proofs.Laws.Lay.{put-whole, Laying, laying-more, laying-done}
 use Rattle.cmac.specs.Cmac.{shl, shifted, k1, k2}
-use Rattle.cmac.specs.State.{addedAt, absorb1, finished}
-use Rattle.cmac.specs.Progress.{Progress}
+use Rattle.cmac.specs.inner.State.{addedAt, absorb1, finished}
+use Rattle.cmac.specs.inner.Progress.{Progress}
 use Rattle.cmac.specs.declared.Mac.{Mac}
 
 module _ (E : List ℕ → List ℕ) (x : List ℕ) where

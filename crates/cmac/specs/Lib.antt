@@ -1,3 +1,2 @@
 pub mod Cmac
-pub mod State
-pub mod Progress
+pub mod inner

@@ -16,7 +16,7 @@ use Rattle.fields.specs.declared.path.PathBytes.{PathBytes}
 use Rattle.fields.specs.declared.path.RelayPath.{RelayPath}
 use Rattle.kept.specs.Kept.{headed}
 use Rattle.composed.specs.Composed.{Lists, lists, pathCount, pathAt, pathRun, itemCount, itemIn, itemsIn, outsideOf, badPath, valueOf, itemWire, composedBytes}
-use Rattle.composed.specs.Passes.{heldOf, faultOf, totalOf}
+use Rattle.composed.specs.inner.Passes.{heldOf, faultOf, totalOf}
 use Rattle.composed.specs.declared.Composed.{Composed}
 use Rattle.composed.specs.declared.Total.{Total}
 use Rattle.composed.specs.declared.Total.the-variants.{Sum, Over}

@@ -32,7 +32,7 @@ use Rattle.kept.specs.Kept.{headed, fixed, itemBytes}
 use Rattle.composed.specs.Composed.{Lists, lists, paths, pathCount, pathAt, pathRun, tagOf, itemIn, isPath, valueOf, itemWire}
 use Rattle.composed.specs.declared.Composed.{Composed}
 use Rattle.items.specs.Items.{isBeat, badBeat}
-use Rattle.composed.specs.Passes.{heldOf, pairAt}
+use Rattle.composed.specs.inner.Passes.{heldOf, pairAt}
 use Rattle.fields.proofs.Laws.Path.{joined-length}
 
 -- ---- at a place in the lists

@@ -1,2 +1,2 @@
 pub mod Composed
-pub mod Passes
+pub mod inner

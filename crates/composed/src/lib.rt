@@ -15,7 +15,7 @@ ghost use Rattle.items.specs.Items.{badBeat, pathKind};
 ghost use Rattle.kept.specs.Kept.{headed};
 ghost use Rattle.composed.specs.Composed.{lists, paths, pathCount, pathAt, pathRun, tagOf, itemIn, itemsIn, itemWire, badKind, kindsRefusal, verdictOf, composedBytes, capped};
 ghost use Rattle.wire.specs.Run.{runAt};
-ghost use Rattle.composed.specs.Passes.{heldOf, pairAt, reachFor, faultOf, totalOf};
+ghost use Rattle.composed.specs.inner.Passes.{heldOf, pairAt, reachFor, faultOf, totalOf};
 use base::Checked;
 use base::Limit;
 use base::Refusal;

@@ -16,7 +16,7 @@ use Rattle.wire.specs.Lay.{put}
 use Rattle.wire.specs.Number.{beBytes}
 use Rattle.wire.proofs.Laws.Lay.{put-front, two-puts}
 use Rattle.wire.proofs.Laws.Number.{be-length}
-use Rattle.cipher.specs.Words.{prepared, enciphered}
+use Rattle.cipher.specs.inner.Words.{prepared, enciphered}
 use Rattle.seal.specs.Stream.{numbered, streamed, sealedOf}
 use Rattle.seal.proofs.Turns.{too-long, too-short, sealed-in}
 use Rattle.composed.specs.Composed.{capped}

@@ -21,7 +21,7 @@ use Rattle.wire.proofs.Laws.Lay.{put-fits, put-front, two-puts}
 use Rattle.fields.specs.declared.path.RelayPath.{RelayPath}
 use Rattle.heartbeats.specs.Heartbeat.{entryAt, entries, pathsOf, lengthRefusal, beatRefusal, entryRefusal, beatOf, pathAfter, entryRead, beatWire, noPath}
 use Rattle.fields.specs.Path.{badEntry, sixOf}
-use Rattle.heartbeats.specs.Steps.{countOf, beatVerdict, placesOf}
+use Rattle.heartbeats.specs.inner.Steps.{countOf, beatVerdict, placesOf}
 use Rattle.heartbeats.specs.declared.heartbeat.HeartbeatRead.the-variants.{Heartbeat, Refused as NoBeat}
 use Rattle.heartbeats.specs.declared.heartbeat.PathRead.the-variants.{Entry, Refused as NoEntry}
 use Rattle.fields.proofs.Laws.Path.{six-length, joined-length}

@@ -1,2 +1,2 @@
 pub mod Heartbeat
-pub mod Steps
+pub mod inner

@@ -8,7 +8,7 @@ ghost use Rattle.base.specs.Answers.{answerOf, outOf};
 ghost use Rattle.wire.specs.Lay.{put};
 ghost use Rattle.heartbeats.specs.Heartbeat.{entryAt, lengthRefusal, beatOf, pathAfter, entryRead, beatWire};
 ghost use Rattle.fields.specs.Path.{badEntry, sixOf};
-ghost use Rattle.heartbeats.specs.Steps.{countOf, beatVerdict, placesOf};
+ghost use Rattle.heartbeats.specs.inner.Steps.{countOf, beatVerdict, placesOf};
 use base::Checked;
 use base::Limit;
 use base::Refusal;

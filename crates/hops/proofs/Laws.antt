@@ -32,7 +32,7 @@ use Rattle.trips.proofs.Same.{body-bytes, clearedBody, body-again, cleared-leng
 use Rattle.mic.specs.Mic.{micOf, fitting, signedOf, carryingMic, signedBy, setMic}
 use Rattle.hops.specs.Hops.{alone, carryingCount, writtenOf, signedAnew, hopEdit, leaves}
 use Rattle.trips.specs.Which.{lowSix}
-use Rattle.hops.specs.Steps.{isUplink, renewed, micLaid, rewritten}
+use Rattle.hops.specs.inner.Steps.{isUplink, renewed, micLaid, rewritten}
 
 -- a message, and the MIC over it
 abbrev pub sealedWith : (List ℕ → List ℕ) → ℕ → List ℕ → List ℕ

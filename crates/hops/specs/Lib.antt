@@ -1,2 +1,2 @@
 pub mod Hops
-pub mod Steps
+pub mod inner

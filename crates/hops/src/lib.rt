@@ -6,7 +6,7 @@ ghost use Rattle.base.specs.Answers.{checkedOf};
 ghost use Rattle.fips197.specs.Aes.{aes};
 ghost use Rattle.mic.specs.Mic.{micOf};
 ghost use Rattle.hops.specs.Hops.{hopEdit, leaves, recounted};
-ghost use Rattle.hops.specs.Steps.{isUplink, micAt, renewed, micLaid, rewritten};
+ghost use Rattle.hops.specs.inner.Steps.{isUplink, micAt, renewed, micLaid, rewritten};
 use aes128::Aes128Key;
 use base::Checked;
 use cmac::cmac;

@@ -2,7 +2,7 @@
 ghost use mathlib.Core.Path.{_≡_};
 ghost use Rattle.base.specs.Answers.{answerOf, outOf, bytes, numberIn, leftBy, writtenSays};
 ghost use Rattle.fips197.specs.Aes.{aes};
-ghost use Rattle.cipher.specs.Words.{prepared, enciphered};
+ghost use Rattle.cipher.specs.inner.Words.{prepared, enciphered};
 ghost use Rattle.cmac.specs.Cmac.{tag};
 ghost use Rattle.aes128.specs.Key.{keySays, keyFromSlice, keyFromText, nullKey, signingKey, encryptionKey};
 ghost use Rattle.wire.specs.Hex.{hexText};

@@ -4,7 +4,7 @@ ghost use Rattle.base.specs.Answers.{numberIn, leftBy, checkedNumber};
 ghost use Rattle.fields.specs.Header.{typeRead};
 ghost use Rattle.flat.specs.Flat.{bit};
 ghost use Rattle.cache.specs.Cache.{addSays};
-ghost use Rattle.packed.specs.Packed.{clearAnswer, clearWords};
+ghost use Rattle.packed.specs.inner.Packed.{clearAnswer, clearWords};
 ghost use Rattle.mesh_c.specs.Face.{cacheAnswer, cacheWords};
 use base::Checked;
 use cache::CacheAnswer;

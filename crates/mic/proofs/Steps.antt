@@ -15,10 +15,10 @@ use Rattle.base.specs.Numbers.{frameLong, micMissing}
 use Rattle.base.specs.Answers.{Frame, bytes, refused}
 use Rattle.wire.specs.Number.{beOf}
 use Rattle.fips197.specs.Aes.{aes}
-use Rattle.cipher.specs.Words.{prepared, enciphered}
+use Rattle.cipher.specs.inner.Words.{prepared, enciphered}
 use Rattle.cipher.proofs.Laws.{prepared-agrees}
 use Rattle.cmac.specs.Cmac.{tag}
-use Rattle.cmac.specs.State.{begun, absorb1, finished}
+use Rattle.cmac.specs.inner.State.{begun, absorb1, finished}
 use Rattle.cmac.specs.declared.Mac.{Mac}
 use Rattle.cmac.proofs.Laws.{finish-tag, tag-same}
 use Rattle.payloads.specs.Write.{prefixed, headedBy}
@@ -33,7 +33,7 @@ use Rattle.packets.proofs.Laws.{message-strange, message-known}
 use Rattle.packets.specs.declared.mesh.MeshPacket.{MeshPacket}
 use Rattle.packets.specs.declared.mesh.MeshRead.the-variants.{Mesh, Refused as NotSigned}
 use Rattle.mic.specs.Mic.{micOf, fitting, signedOf, carryingMic, signedBy, setMic, comparedBy, validateMic}
-use Rattle.mic.specs.Made.{madeOf}
+use Rattle.mic.specs.inner.Made.{madeOf}
 use Rattle.mic.specs.declared.Made.{Made}
 use Rattle.mic.specs.declared.Made.the-variants.{Mic, Refused}
 use Rattle.mic.specs.declared.Validated.the-variants.{Valid, Invalid, Refused as NotValidated}

@@ -1,2 +1,2 @@
 pub mod Mic
-pub mod Made
+pub mod inner

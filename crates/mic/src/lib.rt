@@ -8,7 +8,7 @@ ghost use Rattle.fips197.specs.Aes.{aes};
 ghost use Rattle.bodies.specs.Body.{lent, bodyWire};
 ghost use Rattle.payloads.specs.Write.{prefixed, uplinkWire, downlinkWire, headedBy};
 ghost use Rattle.mic.specs.Mic.{fitting, signedOf, setMic, validateMic};
-ghost use Rattle.mic.specs.Made.{madeOf};
+ghost use Rattle.mic.specs.inner.Made.{madeOf};
 use absorbed::absorb_body;
 use aes128::Aes128Key;
 use aes128::prepare;

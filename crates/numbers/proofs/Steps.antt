@@ -43,7 +43,7 @@ use Rattle.packets.specs.declared.any.PacketRead.the-variants.{Packet as Packet
 use Rattle.flat.specs.Flat.{placeOf, flatOfPayload, flatOf, numbersOf, numbersIn, rssiIn, snrIn}
 use Rattle.flat.specs.declared.Flat.{Flat}
 use Rattle.trips.proofs.Which.{body-length}
-use Rattle.numbers.specs.Numbers.{upFlat, downFlat, stampedFlat, loraFlat, hopsIn, micIn, upIn, downIn, stampedIn, unlessShort}
+use Rattle.numbers.specs.inner.Numbers.{upFlat, downFlat, stampedFlat, loraFlat, hopsIn, micIn, upIn, downIn, stampedIn, unlessShort}
 
 -- no bytes behind the relay id, or a sealed run
 pub sealed-none : (n : ℕ) → n ≡ 0 → bodyOf 9 n ≡ Empty

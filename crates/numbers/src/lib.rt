@@ -7,7 +7,7 @@ ghost use Rattle.base.specs.Numbers.{bodyShort};
 ghost use Rattle.payloads.specs.Read.{fourAt};
 ghost use Rattle.packets.specs.Read.{packetSays, packetOf};
 ghost use Rattle.flat.specs.Flat.{numbersOf, numbersIn, rssiIn, snrIn};
-ghost use Rattle.numbers.specs.Numbers.{upFlat, downFlat, stampedFlat, loraFlat, upIn, downIn, stampedIn, sealedCode, sealedStart, unlessShort};
+ghost use Rattle.numbers.specs.inner.Numbers.{upFlat, downFlat, stampedFlat, loraFlat, upIn, downIn, stampedIn, sealedCode, sealedStart, unlessShort};
 use base::Limit;
 use base::Refusal;
 use bodies::Body;

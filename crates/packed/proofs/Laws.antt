@@ -18,7 +18,7 @@ use Rattle.cache.specs.Cache as ring
 use Rattle.cache.specs.Cache.{packOf, sameRecord, has, emptyRing, newOf, addedOf, pushedOf, ringAnswers, answers}
 use Rattle.cache.proofs.Steps.{has-more}
 use Rattle.cache.proofs.Laws.{pack-same, adds-list}
-use Rattle.packed.specs.Packed.{sizeIn, headAt, timeAt, relayAt, clearedWords, isAt, isBelow, storedAt, pushedWords, addAnswer, addWords, packedAnswers, noRecord, SmallId, SmallIds}
+use Rattle.packed.specs.inner.Packed.{sizeIn, headAt, timeAt, relayAt, clearedWords, isAt, isBelow, storedAt, pushedWords, addAnswer, addWords, packedAnswers, noRecord, SmallId, SmallIds}
 
 -- ---- one place
 

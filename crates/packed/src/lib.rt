@@ -1,8 +1,8 @@
-// The cache of crate `cache` in a lent array of words, in place, for callers that cannot hold its struct. specs/Packed.antt has the layout.
+// The cache of crate `cache` in a lent array of words, in place, for callers that cannot hold its struct. specs/inner/Packed.antt has the layout.
 ghost use mathlib.Core.Path.{_≡_};
 ghost use Prim.Native.Nat.{_<_, _≤_};
 ghost use mathlib.Core.List.{[], _∷_};
-ghost use Rattle.packed.specs.Packed.{clearAnswer, clearWords, isBelow, storedAt, Ready, pushedWords, addAnswer, addWords};
+ghost use Rattle.packed.specs.inner.Packed.{clearAnswer, clearWords, isBelow, storedAt, Ready, pushedWords, addAnswer, addWords};
 use base::Checked;
 use base::Limit;
 use base::Refusal;

@@ -33,7 +33,7 @@ use Rattle.packets.specs.declared.mesh.Payload.the-variants as payload
 use Rattle.packets.specs.declared.mesh.MeshPacket.{MeshPacket}
 use Rattle.heartbeats.specs.Heartbeat.{beatRefusal, beatOf, pathAfter, beatSays}
 use Rattle.cache.specs.Cache.{has, ringCount, addedOf, addSays, packOf}
-use Rattle.packed.specs.Packed.{sizeIn, countIn, isBelow, clearAnswer, clearWords, addAnswer, addWords}
+use Rattle.packed.specs.inner.Packed.{sizeIn, countIn, isBelow, clearAnswer, clearWords, addAnswer, addWords}
 use Rattle.cache.specs.declared.record.PayloadCache.{PayloadCache}
 use Rattle.cache.specs.declared.ring.Cache.{Cache}
 use Rattle.hops.specs.Hops.{leaves}

@@ -14,10 +14,10 @@ use Rattle.base.specs.Answers.{value, number, bytes, numberIn}
 use Rattle.wire.specs.Run.{runBytes, runAt}
 use Rattle.wire.specs.declared.run.Run.{Run}
 use Rattle.fips197.specs.Aes.{aes}
-use Rattle.cipher.specs.Words.{prepared, enciphered}
+use Rattle.cipher.specs.inner.Words.{prepared, enciphered}
 use Rattle.cipher.proofs.Laws.{prepared-agrees}
 use Rattle.cmac.specs.Cmac.{tag}
-use Rattle.cmac.specs.State.{begun, absorb1, finished}
+use Rattle.cmac.specs.inner.State.{begun, absorb1, finished}
 use Rattle.cmac.proofs.Laws.{pieces, tag-same}
 use Rattle.seal.specs.Stream.{streamBlock, sealedOf}
 use Rattle.seal.proofs.Laws.{block-1, block-256, repeats, seal-twice}
@@ -49,7 +49,7 @@ use Rattle.trips.proofs.Sealed as sealed
 use Rattle.cache.specs.Cache.{sameRecord, answersLast, ringAnswers, newOf, addSays}
 use Rattle.cache.specs.declared.record.PayloadCache.{PayloadCache}
 use Rattle.cache.proofs.Laws.{same-is, adds-list, last-added}
-use Rattle.packed.specs.Packed.{clearedWords, packedAnswers, SmallIds}
+use Rattle.packed.specs.inner.Packed.{clearedWords, packedAnswers, SmallIds}
 use Rattle.packed.proofs.Laws.{packed-adds-list}
 use Rattle.packets.specs.Seal.{carrying}
 use Rattle.promises.specs.Said.{Accepts}

@@ -54,7 +54,7 @@ use Rattle.mic.specs.Mic.{setMic, validateMic, validSays}
 use Rattle.mic.specs.declared.Validated.the-variants.{Refused as NotValidated}
 use Rattle.hops.specs.Hops.{leaves}
 use Rattle.cache.specs.Cache.{rec, addSays}
-use Rattle.packed.specs.Packed.{clearAnswer, clearWords}
+use Rattle.packed.specs.inner.Packed.{clearAnswer, clearWords}
 use Rattle.flat.specs.Flat.{typedBy, kindBy, strangeBody, meshFrom, packetFrom}
 use Rattle.flat.specs.declared.Flat.{Flat}
 use Rattle.mesh_c.specs.Face.{headerByteBy, ifMesh, ifPacket, flatFrame, flatBody, flatSigned, flatValid, flatSealed, flatSeal, flatDecrypted, flatWork, flatDecoded, openedNumber, countsLeft, placeLeft, bareUplink, bareDownlink, bareEvent, bareCommand, bareOf, bareBy, cacheAnswer, cacheWords}

@@ -20,7 +20,7 @@ use Rattle.wire.specs.Number.{beBytes}
 use Rattle.wire.proofs.Laws.Number.{be-small}
 use Rattle.fips197.specs.Aes.{aes}
 use Rattle.fips197.proofs.Bytes.{aes-block}
-use Rattle.cipher.specs.Words.{prepared, enciphered}
+use Rattle.cipher.specs.inner.Words.{prepared, enciphered}
 use Rattle.cipher.proofs.Laws.{prepared-agrees}
 use Rattle.seal.specs.Stream.{numberBytes, numbered, blockNumber, streamBlock, streamByte, streamed, sealedOf}
 

@@ -19,7 +19,7 @@ use Rattle.base.proofs.Answers.{room, no-room}
 use Rattle.wire.specs.Lay.{put}
 use Rattle.wire.proofs.Laws.Lay.{Laying, laying-none, laying-done, put-whole, put-front}
 use Rattle.fips197.specs.Aes.{aes}
-use Rattle.cipher.specs.Words.{prepared, enciphered}
+use Rattle.cipher.specs.inner.Words.{prepared, enciphered}
 use Rattle.seal.specs.Stream.{numbered, blockNumber, streamBlock, streamByte, streamed, sealedOf}
 use Rattle.seal.proofs.Laws.{streamed-length, prepared-stream, seal-long, seal-fits}
 

@@ -7,7 +7,7 @@ use mathlib.Core.List.{foldl}
 use lib.ListN.{drop}
 use denote.Ref.{now}
 use Rattle.base.specs.Lists.{joined}
-use Rattle.cipher.specs.Words.{enciphered}
+use Rattle.cipher.specs.inner.Words.{enciphered}
 use Rattle.composed.specs.Composed.{lists, itemsIn, itemWire, composedBytes}
 use Rattle.composed.proofs.Loops.{ahead, same-wire, none-left}
 use Rattle.absorbed.proofs.Steps.{Whole, whole-more, whole-none}

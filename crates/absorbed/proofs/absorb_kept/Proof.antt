@@ -3,7 +3,7 @@ use Prim.Native.Nat.{_-_}
 use native.Mathlib.Omega.{arith}
 use mathlib.Core.Path.{refl, sym, _∙_}
 use lib.ListN.{length, drop}
-use Rattle.cipher.specs.Words.{enciphered}
+use Rattle.cipher.specs.inner.Words.{enciphered}
 use Rattle.items.specs.Items.{pieces}
 use Rattle.items.proofs.Laws.{turn}
 use Rattle.kept.specs.Kept.{itemBytes, keptWire, openBytes}

@@ -6,7 +6,7 @@ use lib.ListN.{drop}
 use denote.Ref.{now}
 use Rattle.base.specs.Lists.{joined}
 use Rattle.wire.specs.declared.run.Run.{Run}
-use Rattle.cipher.specs.Words.{enciphered}
+use Rattle.cipher.specs.inner.Words.{enciphered}
 use Rattle.fields.specs.Path.{sixOf}
 use Rattle.composed.specs.Composed.{paths, pathRun}
 use Rattle.composed.proofs.Runs.{held-le}

@@ -5,7 +5,7 @@ use lib.ListN.{getD}
 use mathlib.Core.List.{List}
 use Prim.Native.Nat.{ℕ}
 use Rattle.base.specs.Lists.{Bytes}
-use Rattle.cipher.specs.Words.{enciphered}
+use Rattle.cipher.specs.inner.Words.{enciphered}
 use Rattle.cipher.proofs.Bridge.{columns-are-bytes}
 use borrow.Author.Needs.{needs}
 use mathlib.Core.Path.{ap, _∙_}

@@ -1,5 +1,5 @@
 -- `aes128::prepare` meets its contract. Assumes nothing.
-use Rattle.cipher.specs.Words.{prepared}
+use Rattle.cipher.specs.inner.Words.{prepared}
 use borrow.Author.Needs.{needs}
 use mathlib.Core.Path.{ap, _∙_}
 use Rattle.aes128.proofs.prepare.Statement.{statement}

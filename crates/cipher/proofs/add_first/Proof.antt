@@ -1,5 +1,5 @@
 -- `cipher::add_first` meets its contract. Assumes nothing.
-use Rattle.cipher.specs.Words.{keyed}
+use Rattle.cipher.specs.inner.Words.{keyed}
 use borrow.Author.Needs.{needs}
 use mathlib.Core.Path.{refl}
 use Rattle.cipher.proofs.add_first.Statement.{statement}

@@ -1,6 +1,6 @@
 -- `cipher::byte1` meets its contract. Assumes nothing.
 use Rattle.wire.specs.Number.{beBytes}
-use Rattle.cipher.specs.Words.{byteOf}
+use Rattle.cipher.specs.inner.Words.{byteOf}
 use borrow.Author.Needs.{needs}
 use mathlib.Core.Path.{refl}
 use Rattle.cipher.proofs.byte1.Statement.{statement}

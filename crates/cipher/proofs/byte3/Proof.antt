@@ -1,6 +1,6 @@
 -- `cipher::byte3` meets its contract. Assumes nothing.
 use Rattle.wire.specs.Number.{beBytes}
-use Rattle.cipher.specs.Words.{byteOf}
+use Rattle.cipher.specs.inner.Words.{byteOf}
 use borrow.Author.Needs.{needs}
 use native.Mathlib.Omega.{arith}
 use Rattle.cipher.proofs.byte3.Statement.{statement}

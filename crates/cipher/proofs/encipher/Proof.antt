@@ -1,6 +1,6 @@
 -- `cipher::encipher` meets its contract. Assumes nothing.
 use Prim.Native.Nat.{_-_, _≤_}
-use Rattle.cipher.specs.Words.{steps}
+use Rattle.cipher.specs.inner.Words.{steps}
 use Rattle.cipher.proofs.Columns.{steps-more, ended}
 use borrow.Author.Needs.{needs}
 use native.Mathlib.Omega.{arith}

@@ -1,5 +1,5 @@
 -- `cipher::last_column` meets its contract. Assumes nothing.
-use Rattle.cipher.specs.Words.{lastColumn}
+use Rattle.cipher.specs.inner.Words.{lastColumn}
 use borrow.Author.Needs.{needs}
 use Rattle.cipher.proofs.last_column.Statement.{statement}
 use Rattle.cipher.proofs.last_column.Tie as tie

@@ -1,5 +1,5 @@
 -- `cipher::last_step` meets its contract. Assumes nothing.
-use Rattle.cipher.specs.Words.{lastStepped}
+use Rattle.cipher.specs.inner.Words.{lastStepped}
 use Rattle.cipher.proofs.Columns.{cols}
 use borrow.Author.Needs.{needs}
 use Rattle.cipher.proofs.last_step.Statement.{statement}

@@ -5,7 +5,7 @@ use lib.ListN.{length, getD}
 use mathlib.Core.List.{List}
 use Prim.Native.Nat.{ℕ, _-_, _≤_}
 use Rattle.base.specs.Lists.{Bytes}
-use Rattle.cipher.specs.Words.{nextCols}
+use Rattle.cipher.specs.inner.Words.{nextCols}
 use Rattle.cipher.proofs.Laws.{Keys, keys-first, keys-more, keys-done}
 use borrow.Author.Needs.{needs}
 use native.Mathlib.Omega.{arith}

@@ -4,7 +4,7 @@ use lib.ListN.{length, getD}
 use mathlib.Core.List.{List}
 use Prim.Native.Nat.{ℕ, _-_, _+_, _≤_, _<_}
 use Rattle.wire.proofs.Laws.Lay.{Laying, laying-none, laying-more, laying-done}
-use Rattle.cipher.specs.Words.{teTable}
+use Rattle.cipher.specs.inner.Words.{teTable}
 use Rattle.cipher.proofs.Bridge.{table-length}
 use borrow.Author.Needs.{needs}
 use native.Mathlib.Omega.{arith}

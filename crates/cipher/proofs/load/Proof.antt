@@ -1,5 +1,5 @@
 -- `cipher::load` meets its contract. Assumes nothing.
-use Rattle.cipher.specs.Words.{loaded, col}
+use Rattle.cipher.specs.inner.Words.{loaded, col}
 use Rattle.cipher.proofs.Columns.{cols}
 use borrow.Author.Needs.{needs}
 use Rattle.cipher.proofs.load.Statement.{statement}

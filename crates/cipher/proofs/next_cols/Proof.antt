@@ -1,5 +1,5 @@
 -- `cipher::next_cols` meets its contract. Assumes nothing.
-use Rattle.cipher.specs.Words.{nextCols, firstCol}
+use Rattle.cipher.specs.inner.Words.{nextCols, firstCol}
 use borrow.Author.Needs.{needs}
 use Rattle.cipher.proofs.next_cols.Statement.{statement}
 use Rattle.cipher.proofs.next_cols.Tie as tie

@@ -4,7 +4,7 @@ use mathlib.Core.List.{List}
 use Prim.Native.Nat.{ℕ}
 use Rattle.wire.specs.Lay.{put}
 use Rattle.wire.proofs.Laws.Lay.{put-length}
-use Rattle.cipher.specs.Words.{keyWords}
+use Rattle.cipher.specs.inner.Words.{keyWords}
 use Rattle.cipher.proofs.Laws.{laid-out}
 use borrow.Author.Needs.{needs}
 use mathlib.Core.Path.{refl, ap, _∙_}

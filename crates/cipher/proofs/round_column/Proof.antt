@@ -1,5 +1,5 @@
 -- `cipher::round_column` meets its contract. Assumes nothing.
-use Rattle.cipher.specs.Words.{column}
+use Rattle.cipher.specs.inner.Words.{column}
 use borrow.Author.Needs.{needs}
 use Rattle.cipher.proofs.round_column.Statement.{statement}
 use Rattle.cipher.proofs.round_column.Tie as tie

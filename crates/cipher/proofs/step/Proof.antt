@@ -1,5 +1,5 @@
 -- `cipher::step` meets its contract. Assumes nothing.
-use Rattle.cipher.specs.Words.{stepped}
+use Rattle.cipher.specs.inner.Words.{stepped}
 use Rattle.cipher.proofs.Columns.{cols}
 use borrow.Author.Needs.{needs}
 use Rattle.cipher.proofs.step.Statement.{statement}

@@ -1,5 +1,5 @@
 -- `cipher::sub` meets its contract. Assumes nothing.
-use Rattle.cipher.specs.Words.{byteOf, sub}
+use Rattle.cipher.specs.inner.Words.{byteOf, sub}
 use borrow.Author.Needs.{needs}
 use mathlib.Core.Path.{ap, _∙_}
 use Rattle.cipher.proofs.sub.Statement.{statement}

@@ -1,5 +1,5 @@
 -- `cipher::turn2` meets its contract. Assumes nothing.
-use Rattle.cipher.specs.Words.{turned}
+use Rattle.cipher.specs.inner.Words.{turned}
 use borrow.Author.Needs.{needs}
 use mathlib.Core.Path.{refl}
 use Rattle.cipher.proofs.turn2.Statement.{statement}

@@ -1,6 +1,6 @@
 -- `cipher::unload` meets its contract. Assumes nothing.
 use Rattle.base.proofs.Lists.{_◂_}
-use Rattle.cipher.specs.Words.{bytesOf}
+use Rattle.cipher.specs.inner.Words.{bytesOf}
 use borrow.Author.Needs.{needs}
 use mathlib.Core.Path.{refl}
 use Rattle.cipher.proofs.unload.Statement.{statement}

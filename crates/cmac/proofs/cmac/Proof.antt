@@ -5,10 +5,10 @@ use mir.Val.{Fits}
 use mir.Syntax.{w8}
 use lib.ListN.{length, getD}
 use Rattle.base.specs.Blocks.{Block}
-use Rattle.cipher.specs.Words.{enciphered}
+use Rattle.cipher.specs.inner.Words.{enciphered}
 use Rattle.cipher.proofs.Laws.{prepared-agrees}
 use Rattle.cmac.specs.Cmac.{tag}
-use Rattle.cmac.specs.State.{absorb1, finished}
+use Rattle.cmac.specs.inner.State.{absorb1, finished}
 use Rattle.cmac.specs.declared.Mac.{Mac}
 use Rattle.cmac.proofs.Laws.{finish-tag, tag-same}
 use borrow.Author.Needs.{needs}

@@ -2,7 +2,7 @@
 use Prim.Native.Nat.{ℕ, _+_, _-_, _≤_}
 use mathlib.Core.List.{List, foldl}
 use lib.ListN.{drop}
-use Rattle.cmac.specs.State.{absorb1}
+use Rattle.cmac.specs.inner.State.{absorb1}
 use Rattle.cmac.proofs.Turns.{fill-more}
 use borrow.Author.Needs.{needs}
 use native.Mathlib.Omega.{arith}

@@ -3,7 +3,7 @@ use Prim.Native.Nat.{_-_}
 use denote.Ref.{now}
 use Rattle.base.proofs.Lists.{Passed, passed-none}
 use Rattle.composed.specs.Composed.{lists, itemsIn}
-use Rattle.composed.specs.Passes.{faultOf}
+use Rattle.composed.specs.inner.Passes.{faultOf}
 use Rattle.composed.proofs.Loops.{pass-more, pass-stop, each-all}
 use borrow.Author.Needs.{needs}
 use Rattle.composed.proofs.first.Statement.{statement}

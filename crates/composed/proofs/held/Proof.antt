@@ -1,6 +1,6 @@
 -- `composed::held` meets its contract. Assumes nothing.
 use borrow.Author.Tests.{eq-eqb, ne-eqb}
-use Rattle.composed.specs.Passes.{heldOf}
+use Rattle.composed.specs.inner.Passes.{heldOf}
 use Rattle.composed.proofs.held.Statement.{statement}
 use Rattle.composed.proofs.held.Tie as tie
 

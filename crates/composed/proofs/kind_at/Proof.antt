@@ -1,6 +1,6 @@
 -- `composed::kind_at` meets its contract. Assumes nothing.
 use borrow.Author.Tests.{lt-ltb, le-ltb}
-use Rattle.composed.specs.Passes.{pairAt}
+use Rattle.composed.specs.inner.Passes.{pairAt}
 use borrow.Author.Needs.{needs}
 use Rattle.composed.proofs.kind_at.Statement.{statement}
 use Rattle.composed.proofs.kind_at.Tie as tie

@@ -1,5 +1,5 @@
 -- `hops::lay_mic` meets its contract. Assumes nothing.
-use Rattle.hops.specs.Steps.{micLaid}
+use Rattle.hops.specs.inner.Steps.{micLaid}
 use borrow.Author.Needs.{needs}
 use Rattle.hops.proofs.lay_mic.Statement.{statement}
 use Rattle.hops.proofs.lay_mic.Tie as tie

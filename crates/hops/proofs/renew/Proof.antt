@@ -1,5 +1,5 @@
 -- `hops::renew` meets its contract. Assumes nothing.
-use Rattle.hops.specs.Steps.{renewed}
+use Rattle.hops.specs.inner.Steps.{renewed}
 use borrow.Author.Needs.{needs}
 use Rattle.hops.proofs.renew.Statement.{statement}
 use Rattle.hops.proofs.renew.Tie as tie

@@ -1,6 +1,6 @@
 -- `hops::rewrite` meets its contract. Assumes nothing.
 use borrow.Author.Tests.{lt-ltb, le-ltb}
-use Rattle.hops.specs.Steps.{rewritten}
+use Rattle.hops.specs.inner.Steps.{rewritten}
 use borrow.Author.Needs.{needs}
 use Rattle.hops.proofs.rewrite.Statement.{statement}
 use Rattle.hops.proofs.rewrite.Tie as tie

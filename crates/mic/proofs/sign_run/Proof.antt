@@ -9,8 +9,8 @@ use mathlib.Core.Path.{_≡_, ap, _∙_}
 use denote.Ref.{now}
 use Rattle.base.specs.Blocks.{Block}
 use Rattle.fips197.specs.Aes.{aes}
-use Rattle.cipher.specs.Words.{enciphered}
-use Rattle.cmac.specs.State.{absorb1}
+use Rattle.cipher.specs.inner.Words.{enciphered}
+use Rattle.cmac.specs.inner.State.{absorb1}
 use Rattle.cmac.specs.declared.Mac.{Mac}
 use Rattle.mic.proofs.Steps.{over, mic-is}
 use borrow.Author.Needs.{needs}

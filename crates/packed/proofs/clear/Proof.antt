@@ -2,7 +2,7 @@
 use mathlib.Core.Path.{refl}
 use borrow.Author.Needs.{needs}
 use borrow.Author.Tests.{lt-ltb, le-ltb}
-use Rattle.packed.specs.Packed.{clearAnswer, clearWords, clearedWords}
+use Rattle.packed.specs.inner.Packed.{clearAnswer, clearWords, clearedWords}
 use Rattle.packed.proofs.clear.Statement.{statement}
 use Rattle.packed.proofs.clear.Tie as tie
 

@@ -1,7 +1,7 @@
 -- `seal::add_stream` meets its contract. Assumes nothing.
 use Prim.Native.Nat.{_-_, _+_, _<_, min}
 use lib.ListN.{length, length-take}
-use Rattle.cipher.specs.Words.{enciphered}
+use Rattle.cipher.specs.inner.Words.{enciphered}
 use Rattle.seal.specs.Stream.{numbered}
 use Rattle.seal.proofs.Turns.{Adding, adding-none, adding-more, adding-done}
 use borrow.Author.Needs.{needs}

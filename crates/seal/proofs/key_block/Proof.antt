@@ -1,5 +1,5 @@
 -- `seal::key_block` meets its contract. Assumes nothing.
-use Rattle.cipher.specs.Words.{enciphered}
+use Rattle.cipher.specs.inner.Words.{enciphered}
 use borrow.Author.Needs.{needs}
 use mathlib.Core.Path.{ap, _∙_}
 use Rattle.seal.proofs.key_block.Statement.{statement}

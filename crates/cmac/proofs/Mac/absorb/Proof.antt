@@ -3,8 +3,8 @@ use Prim.Native.Nat.{_-_, _≤_}
 use mathlib.Core.List.{foldl}
 use lib.ListN.{length, drop}
 use lib.Seq.{drop-length}
-use Rattle.cipher.specs.Words.{enciphered}
-use Rattle.cmac.specs.State.{absorb1}
+use Rattle.cipher.specs.inner.Words.{enciphered}
+use Rattle.cmac.specs.inner.State.{absorb1}
 use borrow.Author.Needs.{needs}
 use native.Mathlib.Omega.{arith}
 use mathlib.Core.Path.{_≡_, refl, sym, _∙_}

@@ -1,5 +1,5 @@
 -- `cmac::Mac::finish` meets its contract. Assumes nothing.
-use Rattle.cipher.specs.Words.{enciphered}
+use Rattle.cipher.specs.inner.Words.{enciphered}
 use Rattle.cmac.proofs.Turns.{finish-short, finish-full}
 use borrow.Author.Needs.{needs}
 use native.Mathlib.Omega.{arith}

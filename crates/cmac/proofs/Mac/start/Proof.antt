@@ -1,6 +1,6 @@
 -- `cmac::Mac::start` meets its contract. Assumes nothing.
 use Rattle.cmac.specs.Cmac.{zeros}
-use Rattle.cmac.specs.State.{begun}
+use Rattle.cmac.specs.inner.State.{begun}
 use mathlib.Core.Path.{refl}
 use Rattle.cmac.proofs.Mac.start.Statement.{statement}
 use Rattle.cmac.proofs.Mac.start.Tie as tie

@@ -1,7 +1,7 @@
 -- `heartbeats::heartbeat::places_of` meets its contract. Assumes nothing.
 use mathlib.Core.Path.{sym, ap}
 use borrow.Author.Needs.{needs}
-use Rattle.heartbeats.specs.Steps.{placesOf}
+use Rattle.heartbeats.specs.inner.Steps.{placesOf}
 use Rattle.heartbeats.proofs.heartbeat.places_of.Statement.{statement}
 use Rattle.heartbeats.proofs.heartbeat.places_of.Tie as tie
 

@@ -1,7 +1,7 @@
 -- `heartbeats::heartbeat::verdict` meets its contract. Assumes nothing.
 use borrow.Author.Needs.{needs}
 use Rattle.base.proofs.Picks.{picks}
-use Rattle.heartbeats.specs.Steps.{beatVerdict}
+use Rattle.heartbeats.specs.inner.Steps.{beatVerdict}
 use Rattle.heartbeats.proofs.heartbeat.verdict.Statement.{statement}
 use Rattle.heartbeats.proofs.heartbeat.verdict.Tie as tie
 

@@ -1,6 +1,6 @@
 -- `mesh_c::keys::mesh_mac` meets its contract. Assumes nothing.
-use Rattle.cipher.specs.Words.{enciphered}
-use Rattle.cmac.specs.State.{finished}
+use Rattle.cipher.specs.inner.Words.{enciphered}
+use Rattle.cmac.specs.inner.State.{finished}
 use Rattle.cmac.proofs.Laws.{finish-tag}
 use borrow.Author.Needs.{needs}
 use mathlib.Core.Path.{ap, _∙_}

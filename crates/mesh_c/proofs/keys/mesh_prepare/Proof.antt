@@ -1,5 +1,5 @@
 -- `mesh_c::keys::mesh_prepare` meets its contract. Assumes nothing.
-use Rattle.cipher.specs.Words.{prepared}
+use Rattle.cipher.specs.inner.Words.{prepared}
 use Rattle.aes128.specs.declared.Aes128Key.{Aes128Key}
 use borrow.Author.Needs.{needs}
 use mathlib.Core.Path.{ap, _∙_}

@@ -54,7 +54,7 @@ use Rattle.fields.proofs.path.RelayPath as R
 use Rattle.fields.proofs.path.RelayPath.Laws as R′
 use Rattle.heartbeats.specs.declared.heartbeat.HeartbeatRead.{HeartbeatRead}
 use Rattle.heartbeats.specs.Heartbeat.{entryAt, entries, beatOf, noPath}
-use Rattle.heartbeats.specs.Steps.{countOf}
+use Rattle.heartbeats.specs.inner.Steps.{countOf}
 use Rattle.base.proofs.Says.{says-both}
 use Rattle.heartbeats.proofs.Counted.{counted}
 use Rattle.heartbeats.proofs.Steps.{filled, filled-more, filled-length, filled-all, Fits, count-fits}

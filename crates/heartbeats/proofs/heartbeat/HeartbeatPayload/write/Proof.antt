@@ -58,7 +58,7 @@ use Rattle.fields.specs.declared.path.RelayPath.{RelayPath}
 use Rattle.fields.proofs.path.RelayPath as R
 use Rattle.fields.proofs.path.RelayPath.Laws as R′
 use Rattle.fields.specs.Path.{badEntry, sixOf}
-use Rattle.heartbeats.specs.Steps.{beatVerdict, placesOf}
+use Rattle.heartbeats.specs.inner.Steps.{beatVerdict, placesOf}
 use Rattle.heartbeats.proofs.Again.{LentAgain, lends-again, comes-back}
 use Rattle.base.proofs.Says.{says-both}
 use Rattle.heartbeats.proofs.Counted.{counted}
