@@ -19,7 +19,8 @@ use Rattle.cache.specs.declared.record.PayloadCache.{PayloadCache}
 use Rattle.cache.specs.declared.ring.Cache.{Cache}
 use Rattle.cache.specs.declared.ring.CacheAnswer.{CacheAnswer}
 use Rattle.cache.specs.declared.ring.CacheAnswer.the-variants.{New, Seen}
-use Rattle.cache.specs.Cache.{sameRecord, headWord, packOf, typeByCode, unpackOf, has, push, step, answers, lastOf, answersLast, newOf, ringCount, ringPlace, pushedOf, addedOf, ringAnswers, contents}
+use Rattle.cache.specs.Cache.{sameRecord, headWord, packOf, typeByCode, unpackOf, has, push, step, answers, lastOf, answersLast}
+use Rattle.cache.specs.inner.Ring.{newOf, ringCount, ringPlace, pushedOf, addedOf, ringAnswers, contents}
 use Rattle.cache.proofs.Steps.{has-append, has-there}
 
 cases : (m n : ℕ) → (m < n) ⊎ (n ≤ m)

@@ -16,7 +16,8 @@ use Rattle.cache.specs.declared.ring.Cache.{Cache}
 use Rattle.cache.specs.declared.ring.CacheAnswer.the-variants.{New, Seen}
 use Rattle.cache.proofs.record.PayloadCache as R
 use Rattle.cache.proofs.ring.Cache as T
-use Rattle.cache.specs.Cache.{sameRecord, has, ringCount, ringPlace, pushedOf, refusedBy, addedOf}
+use Rattle.cache.specs.Cache.{sameRecord, has}
+use Rattle.cache.specs.inner.Ring.{ringCount, ringPlace, pushedOf, refusedBy, addedOf}
 
 -- ---- membership
 

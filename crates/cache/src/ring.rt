@@ -1,7 +1,7 @@
 // The cache of the last records: a ring of at most 64. Every value of its numbers has a meaning, so that no call has a `requires`: a size
 // of 0 or over 64 is refused, a length counts up to the size, and the next place is taken modulo the size.
 ghost use mathlib.Core.Path.{_≡_};
-ghost use Rattle.cache.specs.Cache.{emptyRing, newOf, refusedBy, addedOf};
+ghost use Rattle.cache.specs.inner.Ring.{emptyRing, newOf, refusedBy, addedOf};
 use crate::record::PayloadCache;
 use base::Checked;
 use base::Limit;

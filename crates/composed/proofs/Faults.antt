@@ -13,8 +13,8 @@ use Rattle.wire.specs.Run.{runRefusal, runAt}
 use Rattle.wire.specs.declared.run.Run.{Run}
 use Rattle.fields.specs.Path.{badEntry}
 use Rattle.items.specs.Items.{badBeat}
-use Rattle.composed.specs.Composed.{Lists, paths, pathRun, isPath, itemCount, itemsIn, outsideOf, badPath, longOf, unevenOf, kindsRefusal, verdictOf, capped}
-use Rattle.composed.specs.inner.Passes.{reachFor, faultOf, totalOf}
+use Rattle.composed.specs.Composed.{Lists, paths, pathRun, isPath, itemCount, itemsIn, outsideOf, badPath, longOf, unevenOf, kindsRefusal, verdictOf}
+use Rattle.composed.specs.inner.Passes.{capped, reachFor, faultOf, totalOf}
 use Rattle.composed.specs.declared.Composed.{Composed}
 use Rattle.composed.specs.declared.Total.the-variants.{Sum, Over}
 

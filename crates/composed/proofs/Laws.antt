@@ -17,7 +17,8 @@ use Rattle.wire.specs.Part.{partOf}
 use Rattle.fields.specs.Path.{sixOf}
 use Rattle.items.specs.Items.{isBeat}
 use Rattle.kept.specs.Kept.{fixed}
-use Rattle.composed.specs.Composed.{Lists, lists, pathCount, pathRun, itemCount, itemIn, itemsIn, isPath, badKind, outsideOf, badPath, longOf, unevenOf, kindsRefusal, verdictOf, valueOf, composedBytes, capped}
+use Rattle.composed.specs.Composed.{Lists, lists, pathCount, pathRun, itemCount, itemIn, itemsIn, isPath, badKind, outsideOf, badPath, longOf, unevenOf, kindsRefusal, verdictOf, valueOf, composedBytes}
+use Rattle.composed.specs.inner.Passes.{capped}
 use Rattle.composed.specs.declared.Composed.{Composed}
 use Rattle.composed.proofs.Runs.{held-le, part-length, path-length}
 

@@ -1,5 +1,5 @@
 -- Items that a caller composes, in lent lists: the first refusal over all of them, pass by pass, and their bytes. Assumes nothing.
-use Prim.Native.Nat.{ℕ, _+_, min}
+use Prim.Native.Nat.{ℕ, min}
 use mathlib.Core.Bool.{Bool, false}
 use mathlib.Core.List.{List, [], _∷_, map}
 use lib.Dec.{ltb, eqb}
@@ -7,7 +7,7 @@ use lib.IntN.{ℤ, pos}
 use lib.ListN.{length, getD}
 use Rattle.base.specs.Pick.{pick}
 use Rattle.base.specs.Lists.{from, imap, orElse, firstOf, joined}
-use Rattle.base.specs.Numbers.{typeLarge, itemLong, heartbeatLength, outside, itemMost, pathMost, frameMost}
+use Rattle.base.specs.Numbers.{typeLarge, itemLong, heartbeatLength, outside, itemMost, pathMost}
 use Rattle.base.specs.Answers.{Frame, bytes, unlessRefused}
 use Rattle.wire.specs.Part.{partOf}
 use Rattle.wire.specs.Run.{runAt, runRefusal}
@@ -134,7 +134,3 @@ lentBack ev s = lists (map kindAndTag (listedItems ev s)) (map placeAndLength (l
 -- ---- what is written of n composed items, or the first refusal
 unfoldable pub composedWire : Bool → Lists → ℕ → Frame
 composedWire ev l n = unlessRefused (verdictOf ev l n) (bytes (composedBytes ev l n))
-
--- a length, and for any that no frame has the first of these
-abbrev pub capped : ℕ → ℕ
-capped n = pick (ltb frameMost n) (frameMost + 1) n

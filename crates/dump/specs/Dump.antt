@@ -3,7 +3,7 @@ use Prim.Native.Nat.{ℕ, zero, suc, _+_, _-_, _*_, _/_, _%_}
 use mathlib.Core.Bool.{Bool, true, not}
 use mathlib.Core.List.{List, [], _∷_, _++_}
 use lib.Dec.{ltb, eqb}
-use lib.ListN.{length, replicate}
+use lib.ListN.{length}
 use Rattle.base.specs.Pick.{pick}
 use Rattle.base.specs.Numbers.{lineDigits}
 use Rattle.wire.specs.Number.{beBytes}
@@ -19,7 +19,6 @@ use Rattle.packets.specs.declared.any.Packet.the-variants.{Mesh, Lora}
 use Rattle.packets.specs.declared.any.PacketRead.{PacketRead}
 use Rattle.packets.specs.declared.any.PacketRead.the-variants.{Packet as PacketIs, Refused}
 use Rattle.dump.specs.Ascii.{ascii}
-use Rattle.dump.specs.declared.digits.Digits.{Digits}
 
 -- ---- numbers
 
@@ -36,10 +35,6 @@ decimal n = lastDigits 10 n
 unfoldable pub fromDigits : ℕ → List ℕ → ℕ
 fromDigits v [] = v
 fromDigits v (d ∷ s) = fromDigits (v * 10 + (d - 48)) s
-
--- the digits of n at the end of ten bytes
-abbrev pub digitsOf : ℕ → Digits
-digitsOf n = record { bytes = replicate (10 - length (decimal n)) 0 ++ decimal n; start = 10 - length (decimal n) }
 
 -- four bytes, kept as one number, in hex
 abbrev pub fourText : ℕ → List ℕ

@@ -3,7 +3,8 @@ ghost use mathlib.Core.Path.{_≡_};
 ghost use Prim.Native.Nat.{_≤_};
 ghost use lib.ListN.{length};
 ghost use Rattle.wire.specs.Lay.{put};
-ghost use Rattle.dump.specs.Dump.{decimal, digitsOf};
+ghost use Rattle.dump.specs.Dump.{decimal};
+ghost use Rattle.dump.specs.inner.Digits.{digitsOf};
 use wire::part;
 use wire::put_all;
 

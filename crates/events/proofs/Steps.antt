@@ -19,7 +19,7 @@ use Rattle.wire.proofs.Laws.Number.{be-length}
 use Rattle.cipher.specs.inner.Words.{prepared, enciphered}
 use Rattle.seal.specs.Stream.{numbered, streamed, sealedOf}
 use Rattle.seal.proofs.Turns.{too-long, too-short, sealed-in}
-use Rattle.composed.specs.Composed.{capped}
+use Rattle.composed.specs.inner.Passes.{capped}
 use Rattle.composed.proofs.Laws.{capped-is, capped-over}
 use Rattle.payloads.specs.Write.{prefixed, limited, limitedOf, withMic, headedBy}
 use Rattle.payloads.proofs.Steps.{Outcome, refuses, same-frame, body-refused, frame-refused, no-mic, frame-long, frame-whole, four-length, four-puts}

@@ -2,7 +2,7 @@
 // walk of the code, so each of these is one call.
 ghost use mathlib.Core.Path.{_≡_};
 ghost use Rattle.base.specs.Answers.{answerOf, outOf};
-ghost use Rattle.cache.specs.Cache.{addedOf};
+ghost use Rattle.cache.specs.inner.Ring.{addedOf};
 ghost use Rattle.heartbeats.specs.Heartbeat.{beatOf, pathAfter, beatWire};
 use base::Written;
 use cache::Added;

@@ -18,7 +18,8 @@ use Rattle.flat.specs.Flat.{typedBy, kindBy, strangeBody, meshFrom}
 use Rattle.flat.proofs.Laws.{mesh-strange, mesh-known}
 use Rattle.flat.specs.declared.Flat.{Flat}
 use Rattle.cache.specs.Cache.{recordOf}
-use Rattle.mesh_c.specs.Face.{recordIn, knownId, knownTime}
+use Rattle.mesh_c.specs.Face.{recordIn}
+use Rattle.mesh_c.specs.inner.Known.{knownId, knownTime}
 
 no-type : (n : ℕ) → 3 < n → typeRead n ≡ NoKind 29
 unfolding typeRead

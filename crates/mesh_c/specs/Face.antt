@@ -3,9 +3,7 @@
 use Prim.Native.Nat.{ℕ}
 use mathlib.Core.Bool.{Bool, false}
 use mathlib.Core.List.{List, [], _∷_}
-use lib.Dec.{ltb}
 use lib.IntN.{ℤ}
-use Rattle.base.specs.Pick.{pick}
 use Rattle.base.specs.Answers.{Answer, value, number, Frame, refused}
 use Rattle.aes128.specs.declared.Aes128Key.{Aes128Key}
 use Rattle.fields.specs.Header.{codeOf, headerByte}
@@ -57,7 +55,7 @@ use Rattle.cache.specs.Cache.{rec, recordOf}
 use Rattle.cache.specs.declared.record.PayloadCache.{PayloadCache}
 use Rattle.cache.specs.declared.ring.CacheAnswer.{CacheAnswer}
 use Rattle.cache.specs.declared.ring.CacheAnswer.the-variants.{Refused as NotAdded}
-use Rattle.packed.specs.Packed.{addAnswer, addWords}
+use Rattle.packed.specs.inner.Packed.{addAnswer, addWords}
 
 -- ---- keys, fields and items
 
@@ -243,13 +241,6 @@ recordList r = codeOf (r .«p_type») ∷ r .«uplink_id» ∷ r .timestamp ∷ 
 
 abbrev pub recordIn : MeshPacket → List ℕ
 recordIn p = recordList (recordOf p)
-
--- of it, by the code of the packet's kind
-unfoldable pub knownId : ℕ → ℕ → ℕ
-knownId kind id = pick (ltb kind 2) id 0
-
-unfoldable pub knownTime : ℕ → ℕ → ℕ
-knownTime kind time = pick (ltb kind 2) 0 time
 
 -- a record of numbers added to a cache in words: 29 of its type, then 24
 abbrev pub cacheAnswer : List ℕ → ℕ → ℕ → ℕ → TypeRead → CacheAnswer

@@ -14,8 +14,9 @@ use lib.Seq.{getD-set-same, getD-set-other}
 use Rattle.base.proofs.Lists.{_◂_}
 use Rattle.cache.specs.declared.record.PayloadCache.{PayloadCache}
 use Rattle.cache.specs.declared.ring.Cache.{Cache}
-use Rattle.cache.specs.Cache as ring
-use Rattle.cache.specs.Cache.{packOf, sameRecord, has, emptyRing, newOf, addedOf, pushedOf, ringAnswers, answers}
+use Rattle.cache.specs.inner.Ring as ring
+use Rattle.cache.specs.Cache.{packOf, sameRecord, has, answers}
+use Rattle.cache.specs.inner.Ring.{emptyRing, newOf, addedOf, pushedOf, ringAnswers}
 use Rattle.cache.proofs.Steps.{has-more}
 use Rattle.cache.proofs.Laws.{pack-same, adds-list}
 use Rattle.packed.specs.inner.Packed.{sizeIn, headAt, timeAt, relayAt, clearedWords, isAt, isBelow, storedAt, pushedWords, addAnswer, addWords, packedAnswers, noRecord, SmallId, SmallIds}

@@ -32,7 +32,8 @@ use Rattle.packets.specs.declared.mesh.Payload.{Payload}
 use Rattle.packets.specs.declared.mesh.Payload.the-variants as payload
 use Rattle.packets.specs.declared.mesh.MeshPacket.{MeshPacket}
 use Rattle.heartbeats.specs.Heartbeat.{beatRefusal, beatOf, pathAfter, beatSays}
-use Rattle.cache.specs.Cache.{has, ringCount, addedOf, addSays, packOf}
+use Rattle.cache.specs.Cache.{has, addSays, packOf}
+use Rattle.cache.specs.inner.Ring.{ringCount, addedOf}
 use Rattle.packed.specs.inner.Packed.{sizeIn, countIn, isBelow, clearAnswer, clearWords, addAnswer, addWords}
 use Rattle.cache.specs.declared.record.PayloadCache.{PayloadCache}
 use Rattle.cache.specs.declared.ring.Cache.{Cache}

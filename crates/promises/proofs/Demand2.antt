@@ -46,7 +46,8 @@ use Rattle.trips.proofs.Which.{which}
 use Rattle.trips.proofs.Same.{again}
 use Rattle.trips.proofs.Back.{uplink-back, downlink-back, event-back, command-back, lora-back, lora-again}
 use Rattle.trips.proofs.Sealed as sealed
-use Rattle.cache.specs.Cache.{sameRecord, answersLast, ringAnswers, newOf, addSays}
+use Rattle.cache.specs.Cache.{sameRecord, answersLast, addSays}
+use Rattle.cache.specs.inner.Ring.{ringAnswers, newOf}
 use Rattle.cache.specs.declared.record.PayloadCache.{PayloadCache}
 use Rattle.cache.proofs.Laws.{same-is, adds-list, last-added}
 use Rattle.packed.specs.inner.Packed.{clearedWords, packedAnswers, SmallIds}

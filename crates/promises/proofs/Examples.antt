@@ -13,7 +13,8 @@ use Rattle.fields.specs.Signal.{rssiOf, snrOf, snrByte, signalSays}
 use Rattle.fields.specs.Meta.{upOf}
 use Rattle.fields.specs.declared.header.PayloadType.the-variants.{Command}
 use Rattle.items.specs.Items.{badBeat, kept, skipped, cut, pieces, openingOf}
-use Rattle.cache.specs.Cache.{sameRecord, has, push, step, answers, ringAnswers, newOf, addSays}
+use Rattle.cache.specs.Cache.{sameRecord, has, push, step, answers, addSays}
+use Rattle.cache.specs.inner.Ring.{ringAnswers, newOf}
 use Rattle.cache.specs.declared.record.PayloadCache.{PayloadCache}
 use Rattle.cache.specs.declared.ring.CacheAnswer.the-variants.{New, Seen}
 use Rattle.cache.proofs.Laws.{same-is, adds-list}

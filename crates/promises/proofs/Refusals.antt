@@ -90,7 +90,8 @@ use Rattle.base.specs.declared.Written.the-variants.{Bytes, Refused as NotWritt
 use Rattle.mic.specs.Mic.{micOf, fitting, signedOf, signedBy, setMic, comparedBy, validateMic, validSays}
 use Rattle.mic.specs.declared.Validated.the-variants.{Refused as NotValidated}
 use Rattle.hops.specs.Hops.{alone, carryingCount, writtenOf, signedAnew, hopEdit, leaves}
-use Rattle.cache.specs.Cache.{has, ringCount, packOf, newOf, addedOf, addSays}
+use Rattle.cache.specs.Cache.{has, packOf, addSays}
+use Rattle.cache.specs.inner.Ring.{ringCount, newOf, addedOf}
 use Rattle.cache.specs.declared.record.PayloadCache.{PayloadCache}
 use Rattle.cache.specs.declared.ring.Cache.{Cache}
 use Rattle.cache.specs.declared.ring.CacheNew.{CacheNew}

@@ -43,7 +43,7 @@ use Rattle.composed.specs.Composed.{composedWire, lentBack}
 use Rattle.composed.proofs.Again.{written-back}
 use Rattle.packets.specs.Read.{meshOf, meshSays}
 use Rattle.trips.specs.Which.{leastFrame, meshNumber}
-use Rattle.cache.specs.Cache.{newOf}
+use Rattle.cache.specs.inner.Ring.{newOf}
 use Rattle.promises.specs.Said.{Accepts}
 use Rattle.promises.proofs.Said.{header-said, byte-said, signal-said, steps-said, item-said}
 use Rattle.promises.proofs.Demand2.{mesh-reader-reads, mesh-reader-refuses}

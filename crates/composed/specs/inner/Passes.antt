@@ -1,11 +1,12 @@
 -- What the functions inside cite: one pass by its number, how much of a run a list holds, a pair at a place, and a sum that may be over.
 -- Assumes nothing.
-use Prim.Native.Nat.{ℕ}
+use Prim.Native.Nat.{ℕ, _+_}
 use mathlib.Core.Bool.{Bool}
 use mathlib.Core.List.{List, [], _∷_}
 use lib.Dec.{ltb, eqb}
 use lib.ListN.{length, getD}
 use Rattle.base.specs.Pick.{pick}
+use Rattle.base.specs.Numbers.{frameMost}
 use Rattle.wire.specs.Run.{runAt, runRefusal}
 use Rattle.composed.specs.Composed.{Lists, pathCount, outsideOf, badPath, longOf, unevenOf}
 use Rattle.composed.specs.declared.Composed.{Composed}
@@ -32,3 +33,7 @@ faultOf pass ev l it =
 
 unfoldable pub totalOf : ℕ → ℕ → Total
 totalOf most n = pick (ltb most n) Over (Sum n)
+
+-- a length, and for any that no frame has the first of these
+abbrev pub capped : ℕ → ℕ
+capped n = pick (ltb frameMost n) (frameMost + 1) n

@@ -11,7 +11,8 @@ use lib.Seq.{append-snoc, drop-at, take-all}
 use borrow.Author.Tests.{lt-ltb, le-ltb}
 use Rattle.base.specs.Pick.{pick}
 use Rattle.wire.specs.Part.{partOf}
-use Rattle.dump.specs.Dump.{lastDigits, decimal, digitsOf, fromDigits}
+use Rattle.dump.specs.Dump.{lastDigits, decimal, fromDigits}
+use Rattle.dump.specs.inner.Digits.{digitsOf}
 use Rattle.dump.specs.declared.digits.Digits.{Digits}
 
 -- ---- how many there are

@@ -42,7 +42,7 @@ use Rattle.cache.specs.declared.ring.Cache.{Cache}
 use Rattle.cache.specs.declared.record.PayloadCache.{PayloadCache}
 use Rattle.cache.specs.declared.ring.CacheAnswer.{CacheAnswer}
 use Rattle.cache.specs.declared.ring.Added.{Added}
-use Rattle.cache.specs.Cache.{addedOf}
+use Rattle.cache.specs.inner.Ring.{addedOf}
 use Rattle.cache.proofs.ring.Cache as T
 use Rattle.cache.proofs.ring.Cache.Laws as T′
 use Rattle.cache.proofs.record.PayloadCache as R

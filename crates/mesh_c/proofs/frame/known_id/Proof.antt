@@ -1,6 +1,6 @@
 -- `mesh_c::frame::known_id` meets its contract. Assumes nothing.
 use Rattle.base.proofs.Picks.{picks}
-use Rattle.mesh_c.specs.Face.{knownId}
+use Rattle.mesh_c.specs.inner.Known.{knownId}
 use Rattle.mesh_c.proofs.frame.known_id.Statement.{statement}
 use Rattle.mesh_c.proofs.frame.known_id.Tie as tie
 

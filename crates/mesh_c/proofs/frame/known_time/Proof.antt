@@ -1,6 +1,6 @@
 -- `mesh_c::frame::known_time` meets its contract. Assumes nothing.
 use Rattle.base.proofs.Picks.{picks}
-use Rattle.mesh_c.specs.Face.{knownTime}
+use Rattle.mesh_c.specs.inner.Known.{knownTime}
 use Rattle.mesh_c.proofs.frame.known_time.Statement.{statement}
 use Rattle.mesh_c.proofs.frame.known_time.Tie as tie
 

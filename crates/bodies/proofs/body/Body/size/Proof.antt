@@ -6,7 +6,7 @@ use lib.ListN.{length}
 use Rattle.wire.specs.Run.{runBytes}
 use Rattle.kept.specs.Kept.{openBytes}
 use Rattle.kept.proofs.Laws.{told}
-use Rattle.composed.specs.Composed.{capped}
+use Rattle.composed.specs.inner.Passes.{capped}
 use Rattle.bodies.specs.Body.{bodyBytes}
 use borrow.Author.Needs.{needs}
 use Rattle.bodies.proofs.body.Body.size.Statement.{statement}

@@ -40,7 +40,7 @@ use denote.Exit.{yes}
 use Rattle.cache.specs.declared.ring.Cache.{Cache}
 use Rattle.cache.specs.declared.record.PayloadCache.{PayloadCache}
 use Rattle.cache.specs.declared.ring.Added.{Added}
-use Rattle.cache.specs.Cache.{addedOf}
+use Rattle.cache.specs.inner.Ring.{addedOf}
 use Rattle.base.proofs.Says.{says-both}
 use Rattle.cache.proofs.ring.Cache as T
 use Rattle.cache.proofs.ring.Cache.Laws as T′

@@ -2,7 +2,7 @@
 use mathlib.Core.Path.{refl}
 use borrow.Author.Needs.{needs}
 use borrow.Author.Tests.{lt-ltb, le-ltb}
-use Rattle.cache.specs.Cache.{newOf}
+use Rattle.cache.specs.inner.Ring.{newOf}
 use Rattle.cache.proofs.ring.Cache.new.Statement.{statement}
 use Rattle.cache.proofs.ring.Cache.new.Tie as tie
 
