@@ -34,9 +34,10 @@ def tokens(text):
 def plain(text): return ' '.join(text.split())
 
 def brought(text):
-    """What the `use` lines of an antt file bring: of an item the module that has it and its name there, of a module its path and ''."""
+    """What the `use` lines of an antt file, or the `ghost use` lines of a source, bring: of an item the module that has it and its name there, of
+    a module its path and ''."""
     items = {}
-    for path, group, alias in re.findall(r'^(?:unfoldable |pub )*use\s+([^\s{]+?)(?:\.\{([^}]*)\})?(?:[ \t]+as[ \t]+(\S+))?[ \t]*$', bare(text), re.M):
+    for path, group, alias in re.findall(r'^(?:unfoldable |pub |ghost )*use\s+([^\s{;]+?)(?:\.\{([^}]*)\})?(?:[ \t]+as[ \t]+([^\s;]+))?[ \t]*;?$', bare(text), re.M):
         if not group: items[alias or path.split('.')[-1]] = (path, '')
         for one in filter(None, map(plain, group.split(','))):
             name, _, alias = one.partition(' as ')
@@ -88,12 +89,13 @@ def file_of(module):
     return path if path and path.is_file() else None
 
 @functools.cache
-def outside(path): return brought(path.read_text())
+def outside(path): return brought(path.read_text() if path.suffix == '.antt' else code(path.read_text()))
 
 @functools.cache
 def parts(path):
-    """Each name that a file declares, a constructor's and a field's too, with its declaration."""
+    """Each name that a file of antt declares, a constructor's and a field's too, with its declaration."""
     found = {}
+    if path.suffix != '.antt': return found
     for one in declarations(path)[0]:
         if {'record', 'data'} & set(one.words):
             for m in filter(None, map(DECLARES.match, one.type[1:])): found.setdefault(m[5], one)
@@ -173,11 +175,11 @@ def pieces(text):
     return [p.strip() for p in out if p.strip()]
 
 class Function:
-    """A function of a source: its crate, module and type, what it takes and answers by name, its body, and whether others start there: a
-    program's `main`, or what is exported for C."""
-    def __init__(self, crate, module, owner, name, takes, answers, body, first=False):
+    """A function of a source: its crate, module and type, what it takes and answers by name, its body, whether others start there, a
+    program's `main` or what is exported for C, whether it is public, and its file and its clauses there."""
+    def __init__(self, crate, module, owner, name, takes, answers, body, first=False, public=False, path=None, clauses=()):
         self.crate, self.module, self.owner, self.name, self.takes, self.answers, self.body = crate, module, owner, name, takes, answers, body
-        self.first = first
+        self.first, self.public, self.path, self.clauses = first, public, path, clauses
     # as docs/PROMISES.md writes it
     said = property(lambda self: self.owner + '::' * bool(self.owner) + self.name)
 
@@ -219,10 +221,14 @@ class Sources:
                 at = skip(text, m.end() - 1, '()')
                 takes, answers = text[m.end():at - 1], re.compile(r'\s*->\s*((?:\[[^]]*\]|[^{\[])*?)\s*(?=\b(?:requires|ensures|ghost)\b|\{)').match(text, at)
                 if answers: at = answers.end()
-                while c := re.compile(r'\s*(?:requires|ensures|ghost)\b[^{]*\{').match(text, at): at = skip(text, c.end() - 1)
+                clauses = []
+                while c := re.compile(r'\s*(?:requires|ensures|ghost)\b[^{]*\{').match(text, at):
+                    at = skip(text, c.end() - 1)
+                    clauses.append(text[c.end():at - 1])
                 at = text.find('{', at)
-                first = owner + m[1] == 'main' or text.endswith('extern "C" ', 0, m.start())
-                self.functions.append(Function(crate, module, owner, m[1], takes, inner(answers[1]) if answers else '', text[at:skip(text, at)], first))
+                first, public = owner + m[1] == 'main' or text.endswith('extern "C" ', 0, m.start()), text.endswith(('pub ', 'pub extern "C" '), 0, m.start())
+                answer = inner(answers[1]) if answers else ''
+                self.functions.append(Function(crate, module, owner, m[1], takes, answer, text[at:skip(text, at)], first, public, path, clauses))
         self.calls = {}
 
     def named(self, crate, module, path):
