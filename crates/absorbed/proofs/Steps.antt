@@ -10,8 +10,8 @@ use lib.Seq.{drop-cons}
 use Rattle.base.specs.Lists.{Bytes, imap}
 use Rattle.base.proofs.Bytes.{none-lt, append-lt}
 use Rattle.base.proofs.Lists.{_◂_, imap-length}
-use Rattle.cmac.specs.inner.State.{absorb1}
-use Rattle.cmac.specs.declared.Mac.{Mac}
+use Rattle.cmac_chain.specs.inner.State.{absorb1}
+use Rattle.cmac_chain.specs.declared.Mac.{Mac}
 use Rattle.kept.specs.Kept.{headed, fixed, itemBytes}
 
 pub record Left (E : List ℕ → List ℕ) (m : Mac) (all : List ℕ) (a : Mac) (rest : List ℕ) : Type 0 where

@@ -4,7 +4,7 @@ ghost use mathlib.Core.List.{[], foldl};
 ghost use mathlib.Core.Bool.{true as yes};
 ghost use Rattle.base.specs.Lists.{Bytes, imap, joined};
 ghost use Rattle.cipher.specs.inner.Words.{enciphered};
-ghost use Rattle.cmac.specs.inner.State.{absorb1};
+ghost use Rattle.cmac_chain.specs.inner.State.{absorb1};
 ghost use Rattle.fields.specs.Path.{sixOf};
 ghost use Rattle.kept.specs.Kept.{headed, fixed, itemBytes, openBytes};
 ghost use Rattle.composed.specs.Composed.{lists, paths, pathRun, itemWire, composedBytes};
@@ -13,7 +13,8 @@ use base::Limit;
 use bodies::Body;
 use bodies::held_in;
 use cipher::Cipher;
-use cmac::Mac;
+use cmac::absorb;
+use cmac_chain::Mac;
 use composed::Composed;
 use composed::entry;
 use composed::held;
@@ -42,11 +43,11 @@ fn absorb_beat(m: Mac, e: &Cipher, value: &[u8]) -> Mac
             value[i + 4],
             value[i + 5] % 64,
         ];
-        let b = a.absorb(e, &six);
+        let b = absorb(a, e, &six);
         a = b;
         i += Limit::ENTRY;
     }
-    a.absorb(e, &value[i..])
+    absorb(a, e, &value[i..])
 }
 
 // One item: its two head bytes, then its value.
@@ -54,11 +55,11 @@ pub fn absorb_item(m: Mac, e: &Cipher, beat: bool, tag: u8, value: &[u8]) -> Mac
     ensures { λ r. ⌜ r ≡ foldl (absorb1 (enciphered (now (e .entry)))) m (itemBytes beat tag (now (value .entry))) ⌝ }
 {
     let head = [tag, low_byte(value.len())];
-    let a = m.absorb(e, &head);
+    let a = absorb(m, e, &head);
     if beat {
         return absorb_beat(a, e, value);
     }
-    a.absorb(e, value)
+    absorb(a, e, value)
 }
 
 // The kept items of an open payload.
@@ -100,14 +101,14 @@ fn absorb_path(
 {
     let n = held(path_count(ids, rssis, snrs), place, len);
     let head = [0u8, low_byte(Limit::ENTRY * n)];
-    let mut a = m.absorb(e, &head);
+    let mut a = absorb(m, e, &head);
     let run = run_of(place, len);
     let start = run.start;
     let mut i: usize = 0;
     while i < n {
         let made = entry(start + i, ids, rssis, snrs);
         let six = made.bytes;
-        let b = a.absorb(e, &six);
+        let b = absorb(a, e, &six);
         a = b;
         i += 1;
     }
@@ -186,7 +187,7 @@ pub fn absorb_body<'a>(
 {
     match body {
         Body::Empty => m,
-        Body::Sealed(run) => m.absorb(e, run.bytes(frame)),
+        Body::Sealed(run) => absorb(m, e, run.bytes(frame)),
         Body::Open { held, run } => absorb_kept(
             m,
             e,

@@ -17,14 +17,6 @@ use Rattle.aes128.proofs.Aes128Key.from_str.Kinds as from-str-kinds
 use Rattle.aes128.proofs.Aes128Key.from_str.Reads as from-str-reads
 use Rattle.aes128.proofs.Aes128Key.write_text.Kinds as write-text-kinds
 use Rattle.aes128.proofs.Aes128Key.write_text.Reads as write-text-reads
-use Rattle.aes128.proofs.prepare.Kinds as prepare-kinds
-use Rattle.aes128.proofs.prepare.Reads as prepare-reads
-use Rattle.aes128.proofs.encrypt_block.Kinds as encrypt-block-kinds
-use Rattle.aes128.proofs.encrypt_block.Reads as encrypt-block-reads
-use Rattle.aes128.proofs.get_signing_key.Kinds as get-signing-key-kinds
-use Rattle.aes128.proofs.get_signing_key.Reads as get-signing-key-reads
-use Rattle.aes128.proofs.get_encryption_key.Kinds as get-encryption-key-kinds
-use Rattle.aes128.proofs.get_encryption_key.Reads as get-encryption-key-reads
 
 null : Fixed 0 null-kinds.ps null-kinds.r null-reads.Post
 null κs a x y v w p q = (p ∙ sym q, refl)
@@ -46,15 +38,3 @@ from-str κs a x y v w p q = (p ∙ sym q, refl)
 
 write-text : Fixed 1 write-text-kinds.ps write-text-kinds.r write-text-reads.Post
 write-text κs a x y v w p q = (p .0 ∙ sym (q .0), ap (λ (l : List ℕ). (tt, (l, tt))) (p .1 ∙ sym (q .1)))
-
-prepare : Fixed 0 prepare-kinds.ps prepare-kinds.r prepare-reads.Post
-prepare κs a x y v w p q = (p ∙ sym q, refl)
-
-encrypt-block : Fixed 0 encrypt-block-kinds.ps encrypt-block-kinds.r encrypt-block-reads.Post
-encrypt-block κs a x y v w p q = (p ∙ sym q, refl)
-
-get-signing-key : Fixed 0 get-signing-key-kinds.ps get-signing-key-kinds.r get-signing-key-reads.Post
-get-signing-key κs a x y v w p q = (p ∙ sym q, refl)
-
-get-encryption-key : Fixed 0 get-encryption-key-kinds.ps get-encryption-key-kinds.r get-encryption-key-reads.Post
-get-encryption-key κs a x y v w p q = (p ∙ sym q, refl)

@@ -1,6 +1,6 @@
--- Keys: read from bytes and from text, and the two keys derived from a root key. Assumes nothing.
+-- Keys: read from bytes and from text. Assumes nothing.
 use Prim.Native.Nat.{ℕ}
-use mathlib.Core.List.{List, _∷_}
+use mathlib.Core.List.{List}
 use lib.Dec.{eqb}
 use lib.ListN.{length, replicate}
 use Rattle.base.specs.Pick.{pick}
@@ -10,7 +10,6 @@ use Rattle.base.specs.declared.Checked.the-variants.{Accepted, Refused}
 use Rattle.wire.specs.Hex.{allHex, unhex}
 use Rattle.aes128.specs.declared.Aes128Key.{Aes128Key}
 use Rattle.aes128.specs.declared.KeyRead.{KeyRead}
-use Rattle.fips197.specs.Aes.{aes}
 
 abbrev pub keyOf : List ℕ → Aes128Key
 keyOf s = record { 0 = s }
@@ -35,10 +34,3 @@ keyFromSlice s = pick (eqb (length s) 16) (keyRead s) (keyRefused keyLength)
 -- the length before the digits
 unfoldable pub keyFromText : List ℕ → KeyRead
 keyFromText s = pick (eqb (length s) 32) (pick (allHex s) (keyRead (unhex s)) (keyRefused keyDigit)) (keyRefused keyLength)
-
--- document 01: E of 16 zeros, and E of 01 and 15 zeros, under the root key
-unfoldable pub signingKey : List ℕ → List ℕ
-signingKey root = aes root (replicate 16 0)
-
-unfoldable pub encryptionKey : List ℕ → List ℕ
-encryptionKey root = aes root (1 ∷ replicate 15 0)

@@ -1,15 +1,11 @@
-// Keys of AES-128, their text, and the keys derived from a root key (src/aes128.rs of the Rust).
+// Keys of AES-128 and their text (src/aes128.rs of the Rust). They stand below any cipher; `derivation` has the keys derived from a root key.
 ghost use mathlib.Core.Path.{_≡_};
 ghost use Rattle.base.specs.Answers.{bytes, answerOf, outOf};
 ghost use Rattle.wire.specs.Hex.{hexText};
-ghost use Rattle.fips197.specs.Aes.{aes};
-ghost use Rattle.cipher.specs.inner.Words.{prepared};
-ghost use Rattle.aes128.specs.Key.{keyOf, nullKey, keyRead, keyRefused, keyFromSlice, keyFromText, signingKey, encryptionKey};
+ghost use Rattle.aes128.specs.Key.{keyOf, nullKey, keyRead, keyRefused, keyFromSlice, keyFromText};
 use base::Checked;
 use base::Refusal;
 use base::Written;
-use cipher::Cipher;
-use cipher::encipher;
 use wire::emit;
 use wire::is_hex;
 use wire::put_all;
@@ -117,40 +113,4 @@ impl Aes128Key {
         write_hex(&k, out, 0);
         Written::Bytes(Aes128Key::TEXT_LENGTH)
     }
-}
-
-// The cipher made ready for a key.
-pub fn prepare(key: Aes128Key) -> Cipher
-    ensures { λ r. ⌜ r ≡ prepared (key .0) ⌝ }
-{
-    cipher::prepare(key.to_bytes())
-}
-
-// One block under a key. Whoever enciphers more under one key prepares it once.
-pub fn encrypt_block(key: Aes128Key, block: [u8; 16]) -> [u8; 16]
-    ensures { λ r. ⌜ r ≡ aes (key .0) block ⌝ }
-{
-    let e = prepare(key);
-    encipher(&e, block)
-}
-
-pub fn get_signing_key(key: Aes128Key) -> Aes128Key
-    ensures { λ r. ⌜ r ≡ keyOf (signingKey (key .0)) ⌝ }
-{
-    let b = [0u8; 16];
-    get_key(key, b)
-}
-
-pub fn get_encryption_key(key: Aes128Key) -> Aes128Key
-    ensures { λ r. ⌜ r ≡ keyOf (encryptionKey (key .0)) ⌝ }
-{
-    let mut b = [0u8; 16];
-    b[0] = 1;
-    get_key(key, b)
-}
-
-fn get_key(key: Aes128Key, b: [u8; 16]) -> Aes128Key
-    ensures { λ r. ⌜ r ≡ keyOf (aes (key .0) b) ⌝ }
-{
-    Aes128Key(encrypt_block(key, b))
 }

@@ -6,6 +6,7 @@ ghost use Prim.Native.Nat.{_+_, _≤_};
 ghost use lib.ListN.{length, getD, set};
 ghost use Rattle.cipher.specs.inner.Words.{byteOf, turned, sub, column, lastColumn, loaded, keyed, stepped, lastStepped, bytesOf, nextCols, teTable, keyWords, prepared, enciphered};
 ghost use Rattle.wire.specs.Lay.{put};
+use aes128::Aes128Key;
 use fips197::sbox_table;
 use fips197::times2;
 use wire::be32_of;
@@ -277,8 +278,11 @@ fn te_table() -> [u32; 256]
     TE
 }
 
-// A cipher made ready for one key. What is laid out in it, and how long it is, is known to this crate alone.
-pub type Cipher = [u32; 300];
+// Words of a prepared cipher.
+pub const WORDS: usize = 300;
+
+// A cipher made ready for one key. What is laid out in it is known to this crate alone, and its length by its name.
+pub type Cipher = [u32; WORDS];
 
 struct Cols {
     a: u32,
@@ -427,12 +431,13 @@ fn lay_keys(e: &mut Cipher, key: [u8; 16])
     }
 }
 
-pub fn prepare(key: [u8; 16]) -> Cipher
-    ensures { λ r. ⌜ r ≡ prepared key ⌝ }
+// The cipher made ready for a key.
+pub fn prepare(key: Aes128Key) -> Cipher
+    ensures { λ r. ⌜ r ≡ prepared (key .0) ⌝ }
 {
-    let mut e = [0u32; 300];
+    let mut e = [0u32; WORDS];
     lay_table(&mut e);
-    lay_keys(&mut e, key);
+    lay_keys(&mut e, key.to_bytes());
     e
 }
 

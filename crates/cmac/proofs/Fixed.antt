@@ -5,12 +5,12 @@ use Rattle.cmac.proofs.subkey1.Kinds as subkey1-kinds
 use Rattle.cmac.proofs.subkey1.Reads as subkey1-reads
 use Rattle.cmac.proofs.subkey2.Kinds as subkey2-kinds
 use Rattle.cmac.proofs.subkey2.Reads as subkey2-reads
-use Rattle.cmac.proofs.Mac.start.Kinds as start-kinds
-use Rattle.cmac.proofs.Mac.start.Reads as start-reads
-use Rattle.cmac.proofs.Mac.absorb.Kinds as absorb-kinds
-use Rattle.cmac.proofs.Mac.absorb.Reads as absorb-reads
-use Rattle.cmac.proofs.Mac.finish.Kinds as finish-kinds
-use Rattle.cmac.proofs.Mac.finish.Reads as finish-reads
+use Rattle.cmac.proofs.absorb.Kinds as absorb-kinds
+use Rattle.cmac.proofs.absorb.Reads as absorb-reads
+use Rattle.cmac.proofs.finish.Kinds as finish-kinds
+use Rattle.cmac.proofs.finish.Reads as finish-reads
+use Rattle.cmac.proofs.tag.Kinds as tag-kinds
+use Rattle.cmac.proofs.tag.Reads as tag-reads
 use Rattle.cmac.proofs.cmac.Kinds as cmac-kinds
 use Rattle.cmac.proofs.cmac.Reads as cmac-reads
 
@@ -20,14 +20,14 @@ subkey1 κs a x y v w p q = (p ∙ sym q, refl)
 subkey2 : Fixed 1 subkey2-kinds.ps subkey2-kinds.r subkey2-reads.Post
 subkey2 κs a x y v w p q = (p ∙ sym q, refl)
 
-start : Fixed 0 start-kinds.ps start-kinds.r start-reads.Post
-start κs a x y v w p q = (p ∙ sym q, refl)
-
 absorb : Fixed 2 absorb-kinds.ps absorb-kinds.r absorb-reads.Post
 absorb κs a x y v w p q = (p ∙ sym q, refl)
 
 finish : Fixed 1 finish-kinds.ps finish-kinds.r finish-reads.Post
 finish κs a x y v w p q = (p ∙ sym q, refl)
+
+tag : Fixed 2 tag-kinds.ps tag-kinds.r tag-reads.Post
+tag κs a x y v w p q = (p ∙ sym q, refl)
 
 cmac : Fixed 1 cmac-kinds.ps cmac-kinds.r cmac-reads.Post
 cmac κs a x y v w p q = (p ∙ sym q, refl)

@@ -1,3 +1,1 @@
 pub mod Fixed
-pub mod Laws
-pub mod Turns

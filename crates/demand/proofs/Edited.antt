@@ -21,8 +21,8 @@ use Rattle.wire.specs.declared.run.Run.{Run}
 use Rattle.wire.proofs.Laws.Number.{be-length, be-small, be-lt}
 use Rattle.fips197.specs.Aes.{aes}
 use Rattle.fips197.proofs.Bytes.{aes-block}
-use Rattle.cmac.specs.Cmac.{tag}
-use Rattle.cmac.proofs.Laws.{tag-block}
+use Rattle.cmac_chain.specs.Cmac.{tag}
+use Rattle.cmac_chain.proofs.Laws.{tag-block}
 use Rattle.fields.specs.Signal.{snrOf}
 use Rattle.fields.specs.Header.{headerByte}
 use Rattle.fields.specs.declared.header.HeaderByte.the-variants.{Byte}

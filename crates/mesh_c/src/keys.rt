@@ -3,22 +3,23 @@ ghost use mathlib.Core.Path.{_≡_};
 ghost use Rattle.base.specs.Answers.{answerOf, outOf, bytes, numberIn, leftBy, writtenSays};
 ghost use Rattle.fips197.specs.Aes.{aes};
 ghost use Rattle.cipher.specs.inner.Words.{prepared, enciphered};
-ghost use Rattle.cmac.specs.Cmac.{tag};
-ghost use Rattle.aes128.specs.Key.{keySays, keyFromSlice, keyFromText, nullKey, signingKey, encryptionKey};
+ghost use Rattle.cmac_chain.specs.Cmac.{tag};
+ghost use Rattle.aes128.specs.Key.{keySays, keyFromSlice, keyFromText, nullKey};
+ghost use Rattle.derivation.specs.Derived.{signingKey, encryptionKey};
 ghost use Rattle.wire.specs.Hex.{hexText};
 ghost use Rattle.mesh_c.specs.Face.{keyBytes};
 use aes128::Aes128Key;
 use aes128::KeyRead;
-use aes128::encrypt_block;
-use aes128::get_encryption_key;
-use aes128::get_signing_key;
-use aes128::prepare;
 use base::Checked;
 use base::Written;
 use cipher::Cipher;
 use cipher::encipher;
-use cmac::Mac;
+use cipher::prepare;
 use cmac::cmac;
+use cmac::tag;
+use derivation::encrypt_block;
+use derivation::get_encryption_key;
+use derivation::get_signing_key;
 
 // ---- keys
 
@@ -129,6 +130,6 @@ pub extern "C" fn mesh_cmac(key: &[u8; 16], message: &[u8], out: &mut [u8; 16])
 pub extern "C" fn mesh_mac(cipher: &Cipher, message: &[u8], out: &mut [u8; 16])
     ensures { λ _. ⌜ now (out .exit) ≡ tag (enciphered (now (cipher .entry))) (now (message .entry)) ⌝ }
 {
-    let r = Mac::start().absorb(cipher, message).finish(cipher);
+    let r = tag(cipher, message);
     *out = r;
 }

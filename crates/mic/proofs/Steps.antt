@@ -17,10 +17,10 @@ use Rattle.wire.specs.Number.{beOf}
 use Rattle.fips197.specs.Aes.{aes}
 use Rattle.cipher.specs.inner.Words.{prepared, enciphered}
 use Rattle.cipher.proofs.Laws.{prepared-agrees}
-use Rattle.cmac.specs.Cmac.{tag}
-use Rattle.cmac.specs.inner.State.{begun, absorb1, finished}
-use Rattle.cmac.specs.declared.Mac.{Mac}
-use Rattle.cmac.proofs.Laws.{finish-tag, tag-same}
+use Rattle.cmac_chain.specs.Cmac.{tag}
+use Rattle.cmac_chain.specs.inner.State.{begun, absorb1, finished}
+use Rattle.cmac_chain.specs.declared.Mac.{Mac}
+use Rattle.cmac_chain.proofs.Laws.{finish-tag, tag-same}
 use Rattle.payloads.specs.Write.{prefixed, headedBy}
 use Rattle.bodies.specs.Body.{Lent, bodyRefusal, bodyBytes, bodyWire}
 use Rattle.bodies.specs.declared.body.Body.{Body}

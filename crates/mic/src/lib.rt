@@ -11,12 +11,14 @@ ghost use Rattle.mic.specs.Mic.{fitting, signedOf, setMic, validateMic};
 ghost use Rattle.mic.specs.inner.Made.{madeOf};
 use absorbed::absorb_body;
 use aes128::Aes128Key;
-use aes128::prepare;
 use base::Checked;
 use base::Limit;
 use base::Refusal;
 use bodies::Body;
-use cmac::Mac;
+use cipher::prepare;
+use cmac::absorb;
+use cmac::finish;
+use cmac_chain::Mac;
 use fields::HeaderByte;
 use packets::MeshPacket;
 use packets::MeshRead;
@@ -52,11 +54,9 @@ fn sign_run(key: Aes128Key, first: u8, head: &[u8], payload: &[u8]) -> Made
     }
     let e = prepare(key);
     let byte = [first];
-    let m = Mac::start()
-        .absorb(&e, &byte)
-        .absorb(&e, head)
-        .absorb(&e, payload);
-    Made::Mic(number(m.finish(&e)))
+    let m = absorb(absorb(Mac::start(), &e, &byte), &e, head);
+    let all = absorb(m, &e, payload);
+    Made::Mic(number(finish(all, &e)))
 }
 
 fn sign_uplink(p: UplinkPayload, key: Aes128Key, first: u8, frame: &[u8]) -> Made
@@ -127,7 +127,7 @@ fn sign_body<'a>(
     }
     let e = prepare(key);
     let byte = [first];
-    let m = Mac::start().absorb(&e, &byte).absorb(&e, head);
+    let m = absorb(absorb(Mac::start(), &e, &byte), &e, head);
     let all = absorb_body(
         m,
         &e,
@@ -141,7 +141,7 @@ fn sign_body<'a>(
         rssis,
         snrs,
     );
-    Made::Mic(number(all.finish(&e)))
+    Made::Mic(number(finish(all, &e)))
 }
 
 // 29, 6, 7, 45, body fields, 19, 20, 5.

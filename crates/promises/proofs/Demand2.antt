@@ -16,9 +16,9 @@ use Rattle.wire.specs.declared.run.Run.{Run}
 use Rattle.fips197.specs.Aes.{aes}
 use Rattle.cipher.specs.inner.Words.{prepared, enciphered}
 use Rattle.cipher.proofs.Laws.{prepared-agrees}
-use Rattle.cmac.specs.Cmac.{tag}
-use Rattle.cmac.specs.inner.State.{begun, absorb1, finished}
-use Rattle.cmac.proofs.Laws.{pieces, tag-same}
+use Rattle.cmac_chain.specs.Cmac.{tag}
+use Rattle.cmac_chain.specs.inner.State.{begun, absorb1, finished}
+use Rattle.cmac_chain.proofs.Laws.{pieces, tag-same}
 use Rattle.seal.specs.Stream.{streamBlock, sealedOf}
 use Rattle.seal.proofs.Laws.{block-1, block-256, repeats, seal-twice}
 use Rattle.fields.specs.declared.header.PayloadType.the-variants.{Uplink, Downlink, Event, Command}

@@ -2,19 +2,21 @@
 // a cache and hop edits of one frame, and prints a line for each. The file stdout beside src/ has the published values; the gate compares.
 ghost use Prim.Native.Nat.{_≤_};
 use aes128::Aes128Key;
-use aes128::encrypt_block;
-use aes128::get_encryption_key;
-use aes128::get_signing_key;
-use aes128::prepare;
 use base::Checked;
 use base::Written;
 use cache::Cache;
 use cache::CacheAnswer;
 use cache::PayloadCache;
-use cmac::Mac;
+use cipher::prepare;
+use cmac::absorb;
 use cmac::cmac;
+use cmac::finish;
 use cmac::subkey1;
 use cmac::subkey2;
+use cmac_chain::Mac;
+use derivation::encrypt_block;
+use derivation::get_encryption_key;
+use derivation::get_signing_key;
 use fields::FreqRead;
 use fields::HeaderRead;
 use fields::MHDR;
@@ -136,16 +138,16 @@ fn tags(key: Aes128Key, m: &[u8]) {
 // The two longer examples again, in pieces that end inside a block, at its end and nowhere.
 fn pieces(key: Aes128Key, m: &[u8]) {
     let e = prepare(key);
-    let a = Mac::start().absorb(&e, part(m, 0, 7));
-    let b = a.absorb(&e, part(m, 7, 25));
+    let a = absorb(Mac::start(), &e, part(m, 0, 7));
+    let b = absorb(a, &e, part(m, 7, 25));
     line(
         b"example 3 in pieces      ",
-        b.absorb(&e, part(m, 32, 8)).finish(&e),
+        finish(absorb(b, &e, part(m, 32, 8)), &e),
     );
-    let c = b.absorb(&e, part(m, 32, 0));
+    let c = absorb(b, &e, part(m, 32, 0));
     line(
         b"example 4 in pieces      ",
-        c.absorb(&e, part(m, 32, 32)).finish(&e),
+        finish(absorb(c, &e, part(m, 32, 32)), &e),
     );
 }
 

@@ -7,7 +7,7 @@ use lib.ListN.{length, drop, length-drop}
 use denote.Ref.{now}
 use Rattle.base.specs.Lists.{imap}
 use Rattle.cipher.specs.inner.Words.{enciphered}
-use Rattle.cmac.proofs.Turns.{rest-is}
+use Rattle.cmac_chain.proofs.Turns.{rest-is}
 use Rattle.kept.specs.Kept.{fixed}
 use Rattle.absorbed.proofs.Steps.{Left, left-more, left-last, sixFrom, entry-ahead, left-over}
 use borrow.Author.Needs.{needs}

@@ -6,7 +6,7 @@ use denote.Ref.{now}
 use Rattle.base.proofs.Bytes.{none-lt}
 use Rattle.wire.specs.Run.{runBytes}
 use Rattle.cipher.specs.inner.Words.{enciphered}
-use Rattle.cmac.specs.inner.State.{absorb1}
+use Rattle.cmac_chain.specs.inner.State.{absorb1}
 use Rattle.kept.specs.Kept.{openBytes}
 use Rattle.bodies.specs.Body.{bodyBytes}
 use Rattle.absorbed.proofs.Bytes.{part-lt, open-lt}

@@ -1,5 +1,5 @@
 -- `cmac::subkey1` meets its contract. Assumes nothing.
-use Rattle.cmac.specs.Cmac.{zeros, doubled, k1}
+use Rattle.cmac_chain.specs.Cmac.{zeros, doubled, k1}
 use borrow.Author.Needs.{needs}
 use mathlib.Core.Path.{ap, _∙_}
 use Rattle.cmac.proofs.subkey1.Statement.{statement}

@@ -1,5 +1,5 @@
 -- `cmac::subkey2` meets its contract. Assumes nothing.
-use Rattle.cmac.specs.Cmac.{doubled, k2}
+use Rattle.cmac_chain.specs.Cmac.{doubled, k2}
 use borrow.Author.Needs.{needs}
 use mathlib.Core.Path.{ap, _∙_}
 use Rattle.cmac.proofs.subkey2.Statement.{statement}

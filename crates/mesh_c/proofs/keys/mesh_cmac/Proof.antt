@@ -1,7 +1,7 @@
 -- `mesh_c::keys::mesh_cmac` meets its contract. Assumes nothing.
 use Rattle.fips197.specs.Aes.{aes}
 use Rattle.aes128.specs.declared.Aes128Key.{Aes128Key}
-use Rattle.cmac.specs.Cmac.{tag}
+use Rattle.cmac_chain.specs.Cmac.{tag}
 use borrow.Author.Needs.{needs}
 use mathlib.Core.Path.{ap, _∙_}
 use denote.Ref.{now}

@@ -1,6 +1,6 @@
 -- `mesh_c::keys::mesh_encryption_key` meets its contract. Assumes nothing.
 use mathlib.Core.Path.{ap, _∙_}
-use Rattle.aes128.specs.Key.{encryptionKey}
+use Rattle.derivation.specs.Derived.{encryptionKey}
 use Rattle.aes128.specs.declared.Aes128Key.{Aes128Key}
 use borrow.Author.Needs.{needs}
 use Rattle.mesh_c.proofs.keys.mesh_encryption_key.Statement.{statement}
