@@ -174,14 +174,19 @@ def pieces(text):
         else: out[-1] += c
     return [p.strip() for p in out if p.strip()]
 
+def public_modules(crate):
+    """The modules of a crate that others name on the way to a function."""
+    path = crate / 'src' / 'lib.rt'
+    return set(re.findall(r'^pub mod (\w+);', code(path.read_text()), re.M)) if path.is_file() else set()
+
 class Function:
-    """A function of a source: its crate, module and type, what it takes and answers by name, its body, whether others start there, a
-    program's `main` or what is exported for C, whether it is public, and its file and its clauses there."""
-    def __init__(self, crate, module, owner, name, takes, answers, body, first=False, public=False, path=None, clauses=()):
+    """A function of a source: its crate, module and type, what it takes and answers by name, its body, whether others start there (a
+    program's `main`, or what is exported for C), whether it is public, its file and its clauses there, and what docs/PROMISES.md writes before
+    its name: its type, or its module if that is public."""
+    def __init__(self, crate, module, owner, name, takes, answers, body, first=False, public=False, path=None, clauses=(), above=''):
         self.crate, self.module, self.owner, self.name, self.takes, self.answers, self.body = crate, module, owner, name, takes, answers, body
-        self.first, self.public, self.path, self.clauses = first, public, path, clauses
-    # as docs/PROMISES.md writes it
-    said = property(lambda self: self.owner + '::' * bool(self.owner) + self.name)
+        self.first, self.public, self.path, self.clauses, self.above = first, public, path, clauses, owner or above
+    said = property(lambda self: self.above + '::' * bool(self.above) + self.name)
 
 def inner(kind):
     """The name of the type behind references and lifetimes; of a slice or an array that of its parts, in brackets."""
@@ -204,6 +209,7 @@ class Sources:
         for path in sorted(folder.glob('*/src/**/*.rt')):
             crate, module, text = path.relative_to(folder).parts[0], path.stem, code(path.read_text())
             self.uses[crate, module] = used_crates(text)
+            above = module if module in public_modules(folder / crate) else ''
             for kind, name, at in ((m[1], m[2], m.end() - 1) for m in re.finditer(r'^\s*(?:pub )?(struct|enum) (\w+)(?:<[^>]*>)?\s*[{(]', text, re.M)):
                 body = text[at + 1:skip(text, at, '{}' if text[at] == '{' else '()') - 1]
                 for n, part in enumerate(pieces(body)):
@@ -228,7 +234,7 @@ class Sources:
                 at = text.find('{', at)
                 first, public = owner + m[1] == 'main' or text.endswith('extern "C" ', 0, m.start()), text.endswith(('pub ', 'pub extern "C" '), 0, m.start())
                 answer = inner(answers[1]) if answers else ''
-                self.functions.append(Function(crate, module, owner, m[1], takes, answer, text[at:skip(text, at)], first, public, path, clauses))
+                self.functions.append(Function(crate, module, owner, m[1], takes, answer, text[at:skip(text, at)], first, public, path, clauses, above))
         self.calls = {}
 
     def named(self, crate, module, path):
@@ -238,8 +244,10 @@ class Sources:
         uses = self.uses[crate, module]
         home = above[0] if above else uses.get(owner or name, crate)
         # a module of the crate's own; what is neither is a library's of the kit
-        if home in ('crate', 'self', 'super') or (crate, home) in self.uses: home = crate
-        some = [f for f in self.functions if (f.crate, f.owner, f.name) == (home, owner, name)]
+        own = home in ('crate', 'self', 'super') or (crate, home) in self.uses
+        if own: home = crate
+        within = above[-1] if len(above) > (not own) else ''
+        some = [f for f in self.functions if (f.crate, f.owner, f.name) == (home, owner, name) and within in ('', 'crate', 'self', 'super', f.module)]
         return [f for f in some if f.crate == crate and f.module == module and not above] or some
 
     def types(self, f):

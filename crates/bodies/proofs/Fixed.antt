@@ -12,10 +12,6 @@ use Rattle.bodies.proofs.body.Body.payload.Kinds as body-payload-kinds
 use Rattle.bodies.proofs.body.Body.payload.Reads as body-payload-reads
 use Rattle.bodies.proofs.body.Body.value.Kinds as body-value-kinds
 use Rattle.bodies.proofs.body.Body.value.Reads as body-value-reads
-use Rattle.bodies.proofs.body.Body.decrypt.Kinds as body-decrypt-kinds
-use Rattle.bodies.proofs.body.Body.decrypt.Reads as body-decrypt-reads
-use Rattle.bodies.proofs.body.Body.decode.Kinds as body-decode-kinds
-use Rattle.bodies.proofs.body.Body.decode.Reads as body-decode-reads
 use Rattle.bodies.proofs.body.Body.kinds_refusal.Kinds as body-kinds-refusal-kinds
 use Rattle.bodies.proofs.body.Body.kinds_refusal.Reads as body-kinds-refusal-reads
 use Rattle.bodies.proofs.body.Body.refusal.Kinds as body-refusal-kinds
@@ -36,12 +32,6 @@ body-payload κs a x y v w p q = (p ∙ sym q, refl)
 
 body-value : FixedPart 2 body-value-kinds.ps body-value-kinds.r body-value-reads.Post (λ κs x. now x)
 body-value κs a x y v w p q = (p .0 ∙ sym (q .0), ap (λ (l : ℕ). (tt, (tt, (tt, (tt, (l, tt)))))) (p .1 ∙ sym (q .1)))
-
-body-decrypt : Fixed 2 body-decrypt-kinds.ps body-decrypt-kinds.r body-decrypt-reads.Post
-body-decrypt κs a x y v w p q = (p .0 ∙ sym (q .0), ap (λ (l : List ℕ). (tt, (tt, (tt, (tt, (tt, (tt, (l, tt)))))))) (p .1 ∙ sym (q .1)))
-
-body-decode : Fixed 1 body-decode-kinds.ps body-decode-kinds.r body-decode-reads.Post
-body-decode κs a x y v w p q = (p ∙ sym q, refl)
 
 body-kinds-refusal : Fixed 2 body-kinds-refusal-kinds.ps body-kinds-refusal-kinds.r body-kinds-refusal-reads.Post
 body-kinds-refusal κs a x y v w p q = (p ∙ sym q, refl)

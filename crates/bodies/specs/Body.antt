@@ -44,6 +44,10 @@ work l = l .lists .src
 abbrev pub lent : List ℕ → List ℕ → List (List ℕ) → List (List ℕ) → List ℕ → List ℤ → List ℤ → Lent
 lent f w kinds spans ids rssis snrs = record { frame = f; lists = record { kinds = kinds; spans = spans; ids = ids; rssis = rssis; snrs = snrs; src = w } }
 
+-- a frame, and whatever else is lent with it
+abbrev pub framed : List ℕ → Lists → Lent
+framed s x = record { frame = s; lists = x }
+
 -- 29 of composed items, by their kinds alone
 unfoldable pub bodyKinds : Bool → List (List ℕ) → List (List ℕ) → Body → ℕ
 bodyKinds ev kinds spans Empty = 0

@@ -16,9 +16,9 @@ use Rattle.fields.specs.Header.{codeOf, headerByte}
 use Rattle.fields.specs.declared.header.HeaderByte.the-variants.{Byte}
 use Rattle.packets.specs.Read.{bodyIn, meshOf}
 use Rattle.packets.specs.Write.{meshFrame}
-use Rattle.packets.specs.Seal.{meshDecrypted, meshWork, meshDecoded}
 use Rattle.packets.specs.declared.mesh.MeshPacket.{MeshPacket}
 use Rattle.packets.specs.declared.mesh.MeshRead.the-variants.{Mesh, Refused}
+use Rattle.sealing.specs.Mesh.{meshDecrypted, meshWork, meshDecoded}
 use Rattle.cache.specs.Cache.{recordOf}
 use Rattle.mic.specs.Mic.{setMic, validateMic}
 use Rattle.mic.specs.declared.Validated.the-variants.{Valid}

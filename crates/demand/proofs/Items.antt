@@ -13,21 +13,22 @@ use Rattle.wire.specs.declared.run.Run.{Run}
 use Rattle.items.specs.Items.{pieces, openingOf, nothing}
 use Rattle.seal.specs.Stream.{sealedOf}
 use Rattle.bodies.specs.Body.{heldIn, payloadOf}
-use Rattle.bodies.specs.Open.{refusedOr, openedAs, sealWire, openedBy, readSealed, decryptOf, workAfter, decodeOf}
 use Rattle.bodies.specs.declared.body.Held.{Held}
 use Rattle.bodies.specs.declared.body.Held.the-variants.{Frame as InFrame, Work as InWork}
 use Rattle.bodies.specs.declared.body.Body.{Body}
 use Rattle.bodies.specs.declared.body.Body.the-variants.{Empty, Open}
-use Rattle.bodies.specs.declared.open.Opened.{Opened}
-use Rattle.bodies.specs.declared.open.Opened.the-variants.{Opened as Now, AlreadyOpen, Refused}
-use Rattle.events.specs.Seal.{eventOpened, commandOpened}
 use Rattle.events.specs.declared.stamped.EventPayload.{EventPayload}
 use Rattle.events.specs.declared.stamped.CommandPayload.{CommandPayload}
-use Rattle.packets.specs.Seal.{carrying, ofEventOpened, ofCommandOpened, meshDecrypted, meshWork, meshDecoded}
+use Rattle.packets.specs.Read.{carrying}
 use Rattle.packets.specs.declared.mesh.Payload.{Payload}
 use Rattle.packets.specs.declared.mesh.MeshPacket.{MeshPacket}
-use Rattle.packets.specs.declared.mesh.MeshOpened.{MeshOpened}
-use Rattle.packets.specs.declared.mesh.MeshOpened.the-variants.{Opened as MeshNow, AlreadyOpen as MeshOpen, Refused as MeshNot}
+use Rattle.sealing.specs.Open.{refusedOr, openedAs, sealWire, openedBy, readSealed, decryptOf, workAfter, decodeOf}
+use Rattle.sealing.specs.Seal.{eventOpened, commandOpened}
+use Rattle.sealing.specs.Mesh.{ofEventOpened, ofCommandOpened, meshDecrypted, meshWork, meshDecoded}
+use Rattle.sealing.specs.declared.body.Opened.{Opened}
+use Rattle.sealing.specs.declared.body.Opened.the-variants.{Opened as Now, AlreadyOpen, Refused}
+use Rattle.sealing.specs.declared.mesh.MeshOpened.{MeshOpened}
+use Rattle.sealing.specs.declared.mesh.MeshOpened.the-variants.{Opened as MeshNow, AlreadyOpen as MeshOpen, Refused as MeshNot}
 use Rattle.demand.specs.Demand.{openedUnder, bytesIn, isEvent, piecesIn, ofOpened, decrypted, decoded}
 use Rattle.demand.proofs.Edited.{Placed, nowhere, there, runIn, Lies, uplink, downlink, event, command}
 

@@ -12,12 +12,13 @@ use Rattle.base.specs.Blocks.{Block}
 use Rattle.fips197.specs.Aes.{aes}
 use Rattle.items.specs.Items.{Piece, pieces}
 use Rattle.bodies.specs.Body.{payloadOf}
-use Rattle.packets.specs.Seal.{carrying, meshDecrypted, meshWork, meshDecoded}
+use Rattle.packets.specs.Read.{carrying}
 use Rattle.packets.specs.declared.mesh.Payload.{Payload}
 use Rattle.packets.specs.declared.mesh.Payload.the-variants.{Uplink, Downlink, Event, Command}
 use Rattle.packets.specs.declared.mesh.MeshPacket.{MeshPacket}
-use Rattle.packets.specs.declared.mesh.MeshOpened.{MeshOpened}
-use Rattle.packets.specs.declared.mesh.MeshOpened.the-variants.{Opened, AlreadyOpen, Refused}
+use Rattle.sealing.specs.Mesh.{meshDecrypted, meshWork, meshDecoded}
+use Rattle.sealing.specs.declared.mesh.MeshOpened.{MeshOpened}
+use Rattle.sealing.specs.declared.mesh.MeshOpened.the-variants.{Opened, AlreadyOpen, Refused}
 use Rattle.hops.specs.Hops.{hopEdit, leaves}
 
 -- ---- bits

@@ -13,12 +13,6 @@ use Rattle.events.proofs.stamped.EventPayload.write.Kinds as event-payl
 use Rattle.events.proofs.stamped.EventPayload.write.Reads as event-payload-write-reads
 use Rattle.events.proofs.stamped.EventPayload.write_in.Kinds as event-payload-write-in-kinds
 use Rattle.events.proofs.stamped.EventPayload.write_in.Reads as event-payload-write-in-reads
-use Rattle.events.proofs.stamped.EventPayload.encrypt.Kinds as event-payload-encrypt-kinds
-use Rattle.events.proofs.stamped.EventPayload.encrypt.Reads as event-payload-encrypt-reads
-use Rattle.events.proofs.stamped.EventPayload.decrypt.Kinds as event-payload-decrypt-kinds
-use Rattle.events.proofs.stamped.EventPayload.decrypt.Reads as event-payload-decrypt-reads
-use Rattle.events.proofs.stamped.EventPayload.decode.Kinds as event-payload-decode-kinds
-use Rattle.events.proofs.stamped.EventPayload.decode.Reads as event-payload-decode-reads
 use Rattle.events.proofs.stamped.CommandPayload.read_at.Kinds as command-payload-read-at-kinds
 use Rattle.events.proofs.stamped.CommandPayload.read_at.Reads as command-payload-read-at-reads
 use Rattle.events.proofs.stamped.CommandPayload.from_slice.Kinds as command-payload-from-slice-kinds
@@ -29,12 +23,6 @@ use Rattle.events.proofs.stamped.CommandPayload.write.Kinds as command-
 use Rattle.events.proofs.stamped.CommandPayload.write.Reads as command-payload-write-reads
 use Rattle.events.proofs.stamped.CommandPayload.write_in.Kinds as command-payload-write-in-kinds
 use Rattle.events.proofs.stamped.CommandPayload.write_in.Reads as command-payload-write-in-reads
-use Rattle.events.proofs.stamped.CommandPayload.encrypt.Kinds as command-payload-encrypt-kinds
-use Rattle.events.proofs.stamped.CommandPayload.encrypt.Reads as command-payload-encrypt-reads
-use Rattle.events.proofs.stamped.CommandPayload.decrypt.Kinds as command-payload-decrypt-kinds
-use Rattle.events.proofs.stamped.CommandPayload.decrypt.Reads as command-payload-decrypt-reads
-use Rattle.events.proofs.stamped.CommandPayload.decode.Kinds as command-payload-decode-kinds
-use Rattle.events.proofs.stamped.CommandPayload.decode.Reads as command-payload-decode-reads
 
 event-payload-read-at : Fixed 1 event-payload-read-at-kinds.ps event-payload-read-at-kinds.r event-payload-read-at-reads.Post
 event-payload-read-at κs a x y v w p q = (p ∙ sym q, refl)
@@ -51,15 +39,6 @@ event-payload-write κs a x y v w p q = (p .0 ∙ sym (q .0), ap (λ (l : List �
 event-payload-write-in : Fixed 7 event-payload-write-in-kinds.ps event-payload-write-in-kinds.r event-payload-write-in-reads.Post
 event-payload-write-in κs a x y v w p q = (p .0 ∙ sym (q .0), ap (λ (l : List ℕ). (tt, (tt, (tt, (tt, (tt, (tt, (tt, (tt, (tt, (tt, (tt, (l, tt))))))))))))) (p .1 ∙ sym (q .1)))
 
-event-payload-encrypt : Fixed 7 event-payload-encrypt-kinds.ps event-payload-encrypt-kinds.r event-payload-encrypt-reads.Post
-event-payload-encrypt κs a x y v w p q = (p .0 ∙ sym (q .0), ap (λ (l : List ℕ). (tt, (tt, (tt, (tt, (tt, (tt, (tt, (tt, (tt, (l, tt))))))))))) (p .1 ∙ sym (q .1)))
-
-event-payload-decrypt : Fixed 2 event-payload-decrypt-kinds.ps event-payload-decrypt-kinds.r event-payload-decrypt-reads.Post
-event-payload-decrypt κs a x y v w p q = (p .0 ∙ sym (q .0), ap (λ (l : List ℕ). (tt, (tt, (tt, (l, tt))))) (p .1 ∙ sym (q .1)))
-
-event-payload-decode : Fixed 1 event-payload-decode-kinds.ps event-payload-decode-kinds.r event-payload-decode-reads.Post
-event-payload-decode κs a x y v w p q = (p ∙ sym q, refl)
-
 command-payload-read-at : Fixed 1 command-payload-read-at-kinds.ps command-payload-read-at-kinds.r command-payload-read-at-reads.Post
 command-payload-read-at κs a x y v w p q = (p ∙ sym q, refl)
 
@@ -74,12 +53,3 @@ command-payload-write κs a x y v w p q = (p .0 ∙ sym (q .0), ap (λ (l : List
 
 command-payload-write-in : Fixed 7 command-payload-write-in-kinds.ps command-payload-write-in-kinds.r command-payload-write-in-reads.Post
 command-payload-write-in κs a x y v w p q = (p .0 ∙ sym (q .0), ap (λ (l : List ℕ). (tt, (tt, (tt, (tt, (tt, (tt, (tt, (tt, (tt, (tt, (tt, (l, tt))))))))))))) (p .1 ∙ sym (q .1)))
-
-command-payload-encrypt : Fixed 7 command-payload-encrypt-kinds.ps command-payload-encrypt-kinds.r command-payload-encrypt-reads.Post
-command-payload-encrypt κs a x y v w p q = (p .0 ∙ sym (q .0), ap (λ (l : List ℕ). (tt, (tt, (tt, (tt, (tt, (tt, (tt, (tt, (tt, (l, tt))))))))))) (p .1 ∙ sym (q .1)))
-
-command-payload-decrypt : Fixed 2 command-payload-decrypt-kinds.ps command-payload-decrypt-kinds.r command-payload-decrypt-reads.Post
-command-payload-decrypt κs a x y v w p q = (p .0 ∙ sym (q .0), ap (λ (l : List ℕ). (tt, (tt, (tt, (l, tt))))) (p .1 ∙ sym (q .1)))
-
-command-payload-decode : Fixed 1 command-payload-decode-kinds.ps command-payload-decode-kinds.r command-payload-decode-reads.Post
-command-payload-decode κs a x y v w p q = (p ∙ sym q, refl)

@@ -1,13 +1,12 @@
--- The steps that writing and sealing an event or a command take, over any body, output and lent lists. Assumes nothing.
+-- The steps that writing an event or a command takes, over any body, output and lent lists. Assumes nothing.
 use Prim.Native.Nat.{ℕ, _+_, _≤_, _<_}
 use native.Mathlib.Omega.{arith}
-use mathlib.Core.Bool.{Bool, true, false, not}
+use mathlib.Core.Bool.{Bool, true, false}
 use mathlib.Core.Path.{_≡_, refl, sym, ap, _∙_}
 use mathlib.Core.List.{List, [], _∷_, _++_}
-use lib.ListN.{length, take, drop, length-append}
+use lib.ListN.{length, length-append}
 use borrow.Author.Tests.{lt-ltb, le-ltb}
 use Rattle.base.specs.Numbers.{frameLong, outputShort, micMissing}
-use Rattle.base.specs.Blocks.{Block}
 use Rattle.base.specs.Answers.{Frame, bytes, refused, answerOf, outOf}
 use Rattle.base.specs.declared.Written.{Written}
 use Rattle.base.specs.declared.Written.the-variants.{Bytes, Refused}
@@ -16,27 +15,21 @@ use Rattle.wire.specs.Lay.{put}
 use Rattle.wire.specs.Number.{beBytes}
 use Rattle.wire.proofs.Laws.Lay.{put-front, two-puts}
 use Rattle.wire.proofs.Laws.Number.{be-length}
-use Rattle.cipher.specs.inner.Words.{prepared, enciphered}
-use Rattle.seal.specs.Stream.{numbered, streamed, sealedOf}
-use Rattle.seal.proofs.Turns.{too-long, too-short, sealed-in}
 use Rattle.composed.specs.inner.Passes.{capped}
 use Rattle.composed.proofs.Laws.{capped-is, capped-over}
 use Rattle.payloads.specs.Write.{prefixed, limited, limitedOf, withMic, headedBy}
 use Rattle.payloads.proofs.Steps.{Outcome, refuses, same-frame, body-refused, frame-refused, no-mic, frame-long, frame-whole, four-length, four-puts}
-use Rattle.bodies.specs.Body.{Lent, bodyOf, bodyRefusal, bodyBytes, bodyWire}
+use Rattle.bodies.specs.Body.{Lent, bodyRefusal, bodyBytes, bodyWire}
 use Rattle.events.specs.Write.{stamp, stampedWire}
-use Rattle.events.specs.Seal.{stampedSeal, sealedAs}
 use Rattle.events.specs.declared.stamped.Stamped.{Stamped}
-use Rattle.events.specs.declared.stamped.StampedRead.{StampedRead}
-use Rattle.events.specs.declared.stamped.StampedRead.the-variants.{Stamped as AStamped, Refused as NoStamped}
 use Rattle.events.proofs.Laws.{stamp-length}
 
 -- ---- a length that stands for any larger one
 
-capped-small : (n m : ℕ) → n ≡ capped m → n ≤ 8179 → n ≡ m
+pub capped-small : (n m : ℕ) → n ≡ capped m → n ≤ 8179 → n ≡ m
 capped-small n m e h = capped-is n m e (omega arith)
 
-capped-large : (n m : ℕ) → n ≡ capped m → 8179 < n → 8179 < m
+pub capped-large : (n m : ℕ) → n ≡ capped m → 8179 < n → 8179 < m
 capped-large n m e h = let k : 8179 < 0 + m = capped-over 0 8179 n m (omega arith) e (omega arith) in omega arith
 
 -- ---- a head of eight bytes and a payload
@@ -172,40 +165,3 @@ module _ (ev : Bool) (l : Lent) (p : Stamped) (o : List ℕ) (k : ℕ) (ek : k �
               let s = same in
               rw s (as-frame has mic first _ _ _ (framed-is head body o eight first mic m em has t (omega arith))
               (framed-laid head body o eight first mic m em w x y q (omega arith) ew (ex ∙ ap (put w 1) eh) ey (eq ∙ ap (λ (i : ℕ). put y (9 + i) m) s)))
-
--- ---- sealing
-
-module _ (ev : Bool) (key : List ℕ) (l : Lent) (p : Stamped) (o : List ℕ) (k : ℕ) (ek : k ≡ bodyRefusal ev l (p .body)) where
-  abbrev Sealing : StampedRead → List ℕ → Type 0
-  Sealing r x = (r ≡ sealedAs p (answerOf (stampedSeal ev key l p) o)) × (x ≡ outOf (stampedSeal ev key l p) o)
-
-  pub seal-refused : (k ≡ 0 → ⊥) → Sealing (NoStamped k) o
-  unfolding stampedSeal answerOf outOf
-  seal-refused h = rw (← is-refused k _ (sealedOf key (not ev) (p .«relay_id») (p .timestamp) (bodyBytes ev l (p .body))) ek h) (refl, refl)
-
-  module _ (z : k ≡ 0) (n : ℕ) (en : n ≡ capped (length (bodyBytes ev l (p .body)))) where
-    seal-is : stampedSeal ev key l p ≡ sealedOf key (not ev) (p .«relay_id») (p .timestamp) (bodyBytes ev l (p .body))
-    unfolding stampedSeal
-    seal-is = sym (not-refused (bodyRefusal ev l (p .body)) (sealedOf key (not ev) (p .«relay_id») (p .timestamp) (bodyBytes ev l (p .body))) (sym ek ∙ z))
-
-    -- what is answered of the bytes is answered of the payload
-    as-payload : (a : Written) (x : List ℕ) → (a ≡ answerOf (sealedOf key (not ev) (p .«relay_id») (p .timestamp) (bodyBytes ev l (p .body))) o)
-        × (x ≡ outOf (sealedOf key (not ev) (p .«relay_id») (p .timestamp) (bodyBytes ev l (p .body))) o) → Sealing (sealedAs p a) x
-    as-payload a x h = rw seal-is (ap (sealedAs p) (h .0), h .1)
-
-    pub seal-long : 8179 < n → Sealing (NoStamped frameLong) o
-    seal-long h = as-payload (Refused frameLong) o (too-long key (not ev) (p .«relay_id») (p .timestamp) (bodyBytes ev l (p .body)) o (capped-large n _ en h))
-
-    pub seal-short : n ≤ 8179 → length o < n → Sealing (NoStamped outputShort) o
-    seal-short f h =
-        let s : n ≡ length (bodyBytes ev l (p .body)) = capped-small n _ en f in
-        as-payload (Refused outputShort) o (too-short key (not ev) (p .«relay_id») (p .timestamp) (bodyBytes ev l (p .body)) o (omega arith) (omega arith))
-
-    pub seal-done : Block key → n ≤ 8179 → n ≤ length o → {x y e : List ℕ} → x ≡ put o 0 (bodyBytes ev l (p .body)) → e ≡ prepared key
-        → y ≡ streamed (enciphered e) (numbered (not ev) (p .«relay_id») (p .timestamp)) (take n x)
-        → Sealing (AStamped (record { timestamp = p .timestamp; «relay_id» = p .«relay_id»; body = bodyOf 0 n })) (y ++ drop n x)
-    seal-done b f g {x} {y} {e} ex ee ey =
-        let s : n ≡ length (bodyBytes ev l (p .body)) = capped-small n _ en f in
-        let i = sealed-in key (not ev) (p .«relay_id») (p .timestamp) (bodyBytes ev l (p .body)) o b (omega arith) (omega arith) {l = x} {x = y} {e = e} ex ee
-        (ey ∙ ap (λ (j : ℕ). streamed (enciphered e) (numbered (not ev) (p .«relay_id») (p .timestamp)) (take j x)) s) in
-        rw s (as-payload (Bytes (length (bodyBytes ev l (p .body)))) (y ++ drop (length (bodyBytes ev l (p .body))) x) i)

@@ -1,22 +1,14 @@
 // Event and command bodies: timestamp, relay id, and what follows them.
 ghost use mathlib.Core.Path.{_≡_};
-ghost use mathlib.Core.Bool.{Bool};
 ghost use Rattle.base.specs.Answers.{answerOf, outOf};
 ghost use Rattle.payloads.specs.Write.{limitedOf, prefixed, withMic};
 ghost use Rattle.bodies.specs.Body.{lent};
-ghost use Rattle.bodies.specs.Open.{decryptOf, workAfter, decodeOf};
 ghost use Rattle.events.specs.Read.{stampedAt, eventAt, commandAt};
 ghost use Rattle.events.specs.Write.{stamp, stampedOfEvent, stampedOfCommand, eventWire, commandWire, stampedWire};
-ghost use Rattle.events.specs.Seal.{stampedSeal, sealedAs, eventSeal, eventSealed, commandSeal, commandSealed, eventOpened, commandOpened};
-use aes128::Aes128Key;
 use base::Limit;
 use base::Refusal;
 use base::Written;
 use bodies::Body;
-use bodies::Opened;
-use cipher::prepare;
-use items::Opening;
-use seal::add_stream;
 use wire::be32_bytes;
 use wire::be32_of;
 use wire::put_all;
@@ -32,16 +24,6 @@ pub enum EventRead {
     Refused(u8),
 }
 
-// What opening answers: the payload from now on, and what was in it.
-pub enum EventOpened {
-    Opened {
-        payload: EventPayload,
-        opening: Opening,
-    },
-    AlreadyOpen,
-    Refused(u8),
-}
-
 pub struct CommandPayload {
     pub timestamp: u32,
     pub relay_id: u32,
@@ -50,15 +32,6 @@ pub struct CommandPayload {
 
 pub enum CommandRead {
     Payload(CommandPayload),
-    Refused(u8),
-}
-
-pub enum CommandOpened {
-    Opened {
-        payload: CommandPayload,
-        opening: Opening,
-    },
-    AlreadyOpen,
     Refused(u8),
 }
 
@@ -196,55 +169,6 @@ impl Stamped {
         put_all(&last, out, 9 + n);
         Written::Bytes(13 + n)
     }
-
-    fn encrypt<'a>(
-        self,
-        is_event: bool,
-        key: Aes128Key,
-        frame: &'a [u8],
-        work: &'a [u8],
-        kinds: &[[u8; 2]],
-        spans: &[[u32; 2]],
-        ids: &[u32],
-        rssis: &[i16],
-        snrs: &[i8],
-        out: &mut [u8],
-    ) -> StampedRead
-        ensures answer { λ r. ⌜ r ≡ sealedAs self (answerOf (stampedSeal «is_event» (key .0) (lent (now (frame .entry)) (now (work .entry)) (now (kinds .entry)) (now (spans .entry)) (now (ids .entry)) (now (rssis .entry)) (now (snrs .entry))) self) (now (out .entry))) ⌝ }
-        ensures bytes { λ _. ⌜ now (out .exit) ≡ outOf (stampedSeal «is_event» (key .0) (lent (now (frame .entry)) (now (work .entry)) (now (kinds .entry)) (now (spans .entry)) (now (ids .entry)) (now (rssis .entry)) (now (snrs .entry))) self) (now (out .entry)) ⌝ }
-    {
-        let body = self.body;
-        let bad = body.refusal(is_event, frame, work, kinds, spans, ids, rssis, snrs);
-        if bad != 0 {
-            return StampedRead::Refused(bad);
-        }
-        let n = body.size(is_event, frame, work, kinds, spans, ids, rssis, snrs);
-        if Limit::PAYLOAD < n {
-            return StampedRead::Refused(Refusal::FRAME_LONG);
-        }
-        if out.len() < n {
-            return StampedRead::Refused(Refusal::OUTPUT_SHORT);
-        }
-        body.put(
-            is_event,
-            frame,
-            work,
-            kinds,
-            spans,
-            ids,
-            rssis,
-            snrs,
-            out,
-            0,
-        );
-        let e = prepare(key);
-        add_stream(&e, !is_event, self.relay_id, self.timestamp, &mut out[..n]);
-        StampedRead::Stamped(Stamped {
-            timestamp: self.timestamp,
-            relay_id: self.relay_id,
-            body: Body::of(0, n),
-        })
-    }
 }
 
 impl EventPayload {
@@ -341,69 +265,6 @@ impl EventPayload {
             out,
         )
     }
-
-    // Sealed at the front of out, where it lies from then on: 45, path entries, 19, 20, 5, 21.
-    pub fn encrypt<'a>(
-        self,
-        key: Aes128Key,
-        frame: &'a [u8],
-        work: &'a [u8],
-        kinds: &[[u8; 2]],
-        spans: &[[u32; 2]],
-        ids: &[u32],
-        rssis: &[i16],
-        snrs: &[i8],
-        out: &mut [u8],
-    ) -> EventRead
-        ensures answer { λ r. ⌜ r ≡ eventSealed self (answerOf (eventSeal (key .0) (lent (now (frame .entry)) (now (work .entry)) (now (kinds .entry)) (now (spans .entry)) (now (ids .entry)) (now (rssis .entry)) (now (snrs .entry))) self) (now (out .entry))) ⌝ }
-        ensures bytes { λ _. ⌜ now (out .exit) ≡ outOf (eventSeal (key .0) (lent (now (frame .entry)) (now (work .entry)) (now (kinds .entry)) (now (spans .entry)) (now (ids .entry)) (now (rssis .entry)) (now (snrs .entry))) self) (now (out .entry)) ⌝ }
-    {
-        match self.stamped().encrypt(true, key, frame, work, kinds, spans, ids, rssis, snrs, out) {
-            StampedRead::Refused(n) => EventRead::Refused(n),
-            StampedRead::Stamped(s) => {
-                let events = s.body;
-                EventRead::Payload(EventPayload {
-                    timestamp: s.timestamp,
-                    relay_id: s.relay_id,
-                    events,
-                })
-            }
-        }
-    }
-
-    fn opened(self, o: Opened) -> EventOpened
-        ensures { λ r. ⌜ r ≡ eventOpened self o ⌝ }
-    {
-        match o {
-            Opened::Refused(n) => EventOpened::Refused(n),
-            Opened::AlreadyOpen => EventOpened::AlreadyOpen,
-            Opened::Opened { body, opening } => EventOpened::Opened {
-                payload: EventPayload {
-                    timestamp: self.timestamp,
-                    relay_id: self.relay_id,
-                    events: body,
-                },
-                opening,
-            },
-        }
-    }
-
-    // The clear bytes go into the work buffer: 22, 23, 45, 5, 21.
-    pub fn decrypt(self, key: Aes128Key, frame: &[u8], work: &mut [u8]) -> EventOpened
-        ensures answer { λ r. ⌜ r ≡ eventOpened self (decryptOf (key .0) Bool.false (self .«relay_id») (self .timestamp) (self .events) (now (frame .entry)) (now (work .entry))) ⌝ }
-        ensures work { λ _. ⌜ now (work .exit) ≡ workAfter (key .0) Bool.false (self .«relay_id») (self .timestamp) (self .events) (now (frame .entry)) (now (work .entry)) ⌝ }
-    {
-        let body = self.events;
-        self.opened(body.decrypt(key, false, self.relay_id, self.timestamp, frame, work))
-    }
-
-    // The frame is read as it stands; if sealed: 45, 5.
-    pub fn decode<'a>(self, frame: &'a [u8], work: &'a [u8]) -> EventOpened
-        ensures { λ r. ⌜ r ≡ eventOpened self (decodeOf Bool.true (self .events) (now (frame .entry)) (now (work .entry))) ⌝ }
-    {
-        let body = self.events;
-        self.opened(body.decode(true, frame, work))
-    }
 }
 
 impl CommandPayload {
@@ -499,68 +360,5 @@ impl CommandPayload {
             snrs,
             out,
         )
-    }
-
-    // Sealed at the front of out, where it lies from then on: 45, path entries, 19, 20, 5, 21.
-    pub fn encrypt<'a>(
-        self,
-        key: Aes128Key,
-        frame: &'a [u8],
-        work: &'a [u8],
-        kinds: &[[u8; 2]],
-        spans: &[[u32; 2]],
-        ids: &[u32],
-        rssis: &[i16],
-        snrs: &[i8],
-        out: &mut [u8],
-    ) -> CommandRead
-        ensures answer { λ r. ⌜ r ≡ commandSealed self (answerOf (commandSeal (key .0) (lent (now (frame .entry)) (now (work .entry)) (now (kinds .entry)) (now (spans .entry)) (now (ids .entry)) (now (rssis .entry)) (now (snrs .entry))) self) (now (out .entry))) ⌝ }
-        ensures bytes { λ _. ⌜ now (out .exit) ≡ outOf (commandSeal (key .0) (lent (now (frame .entry)) (now (work .entry)) (now (kinds .entry)) (now (spans .entry)) (now (ids .entry)) (now (rssis .entry)) (now (snrs .entry))) self) (now (out .entry)) ⌝ }
-    {
-        match self.stamped().encrypt(false, key, frame, work, kinds, spans, ids, rssis, snrs, out) {
-            StampedRead::Refused(n) => CommandRead::Refused(n),
-            StampedRead::Stamped(s) => {
-                let commands = s.body;
-                CommandRead::Payload(CommandPayload {
-                    timestamp: s.timestamp,
-                    relay_id: s.relay_id,
-                    commands,
-                })
-            }
-        }
-    }
-
-    fn opened(self, o: Opened) -> CommandOpened
-        ensures { λ r. ⌜ r ≡ commandOpened self o ⌝ }
-    {
-        match o {
-            Opened::Refused(n) => CommandOpened::Refused(n),
-            Opened::AlreadyOpen => CommandOpened::AlreadyOpen,
-            Opened::Opened { body, opening } => CommandOpened::Opened {
-                payload: CommandPayload {
-                    timestamp: self.timestamp,
-                    relay_id: self.relay_id,
-                    commands: body,
-                },
-                opening,
-            },
-        }
-    }
-
-    // The clear bytes go into the work buffer: 22, 23, 45, 5, 21.
-    pub fn decrypt(self, key: Aes128Key, frame: &[u8], work: &mut [u8]) -> CommandOpened
-        ensures answer { λ r. ⌜ r ≡ commandOpened self (decryptOf (key .0) Bool.true (self .«relay_id») (self .timestamp) (self .commands) (now (frame .entry)) (now (work .entry))) ⌝ }
-        ensures work { λ _. ⌜ now (work .exit) ≡ workAfter (key .0) Bool.true (self .«relay_id») (self .timestamp) (self .commands) (now (frame .entry)) (now (work .entry)) ⌝ }
-    {
-        let body = self.commands;
-        self.opened(body.decrypt(key, true, self.relay_id, self.timestamp, frame, work))
-    }
-
-    // The frame is read as it stands; if sealed: 45, 5.
-    pub fn decode<'a>(self, frame: &'a [u8], work: &'a [u8]) -> CommandOpened
-        ensures { λ r. ⌜ r ≡ commandOpened self (decodeOf Bool.false (self .commands) (now (frame .entry)) (now (work .entry))) ⌝ }
-    {
-        let body = self.commands;
-        self.opened(body.decode(false, frame, work))
     }
 }

@@ -22,7 +22,6 @@ use Rattle.items.specs.Items.{kindCode, Found, keptItem, skippedItem, cutTail, 
 use Rattle.items.specs.declared.item.Item.{Item}
 use Rattle.items.specs.declared.count.Opening.{Opening}
 use Rattle.bodies.specs.Body.{Lent}
-use Rattle.bodies.specs.Open.{Told, told, wasOpen}
 use Rattle.payloads.specs.Write.{limitedOf}
 use Rattle.payloads.specs.Read.{uplinkAt, downlinkAt}
 use Rattle.payloads.specs.declared.uplink.UplinkRead.{UplinkRead}
@@ -35,17 +34,18 @@ use Rattle.events.specs.declared.stamped.EventRead.the-variants.{Payload as Eve
 use Rattle.events.specs.declared.stamped.CommandRead.{CommandRead}
 use Rattle.events.specs.declared.stamped.CommandRead.the-variants.{Payload as CommandIs, Refused as NoCommand}
 use Rattle.packets.specs.Write.{payloadWire, packetFrame}
-use Rattle.packets.specs.Seal.{sealOf, meshSealed, meshDecrypted, meshWork, meshDecoded}
 use Rattle.packets.specs.declared.mesh.Payload.{Payload}
 use Rattle.packets.specs.declared.mesh.Payload.the-variants.{Uplink as AnUplink, Downlink as ADownlink, Event as AnEvent, Command as ACommand}
 use Rattle.packets.specs.declared.mesh.MeshPacket.{MeshPacket}
 use Rattle.packets.specs.declared.mesh.MeshRead.{MeshRead}
 use Rattle.packets.specs.declared.mesh.MeshRead.the-variants.{Mesh, Refused as NoMesh}
-use Rattle.packets.specs.declared.mesh.MeshOpened.{MeshOpened}
-use Rattle.packets.specs.declared.mesh.MeshOpened.the-variants.{Refused as NotOpened}
 use Rattle.packets.specs.declared.any.Packet.{Packet}
 use Rattle.packets.specs.declared.any.PacketRead.{PacketRead}
 use Rattle.packets.specs.declared.any.PacketRead.the-variants.{Packet as PacketIs, Refused as NoPacket}
+use Rattle.sealing.specs.Open.{Told, told, wasOpen}
+use Rattle.sealing.specs.Mesh.{sealOf, meshSealed, meshDecrypted, meshWork, meshDecoded}
+use Rattle.sealing.specs.declared.mesh.MeshOpened.{MeshOpened}
+use Rattle.sealing.specs.declared.mesh.MeshOpened.the-variants.{Refused as NotOpened}
 use Rattle.mic.specs.Mic.{setMic, validateMic}
 use Rattle.mic.specs.declared.Validated.{Validated}
 use Rattle.mic.specs.declared.Validated.the-variants.{Refused as NotValidated}

@@ -8,7 +8,7 @@ ghost use Rattle.bodies.specs.Body.{lent};
 ghost use Rattle.payloads.specs.Write.{limitedOf};
 ghost use Rattle.packets.specs.Read.{packetSays, packetOf, meshSays, meshOf};
 ghost use Rattle.packets.specs.Write.{payloadWire};
-ghost use Rattle.packets.specs.Seal.{meshOpenedSays};
+ghost use Rattle.sealing.specs.Mesh.{meshOpenedSays};
 ghost use Rattle.mic.specs.Mic.{validSays};
 ghost use Rattle.hops.specs.Hops.{hopEdit, leaves};
 ghost use Rattle.flat.specs.Flat.{bit, meshFrom, numbersIn, rssiIn, snrIn};
@@ -37,7 +37,6 @@ use mic::Validated;
 use mic::set_mic;
 use mic::validate_mic;
 use numbers::read_numbers;
-use packets::MeshOpened;
 use packets::MeshPacket;
 use packets::MeshRead;
 use packets::PacketRead;
@@ -46,6 +45,7 @@ use payloads::DownlinkPayload;
 use payloads::DownlinkRead;
 use payloads::UplinkPayload;
 use payloads::UplinkRead;
+use sealing::MeshOpened;
 
 // ---- reading
 
@@ -599,7 +599,18 @@ fn seal_flat<'a>(
 {
     match f.mesh() {
         MeshRead::Refused(n) => MeshRead::Refused(n),
-        MeshRead::Mesh(p) => p.encrypt(key, frame, work, kinds, spans, ids, rssis, snrs, out),
+        MeshRead::Mesh(p) => sealing::mesh::encrypt(
+            p,
+            key,
+            frame,
+            work,
+            kinds,
+            spans,
+            ids,
+            rssis,
+            snrs,
+            out,
+        ),
     }
 }
 
@@ -699,7 +710,7 @@ fn decrypt_flat(f: Flat, key: Aes128Key, frame: &[u8], work: &mut [u8]) -> MeshO
 {
     match f.mesh() {
         MeshRead::Refused(n) => MeshOpened::Refused(n),
-        MeshRead::Mesh(p) => p.decrypt(key, frame, work),
+        MeshRead::Mesh(p) => sealing::mesh::decrypt(p, key, frame, work),
     }
 }
 
@@ -767,7 +778,7 @@ fn decode_flat<'a>(f: Flat, frame: &'a [u8], work: &'a [u8]) -> MeshOpened
 {
     match f.mesh() {
         MeshRead::Refused(n) => MeshOpened::Refused(n),
-        MeshRead::Mesh(p) => p.decode(frame, work),
+        MeshRead::Mesh(p) => sealing::mesh::decode(p, frame, work),
     }
 }
 

@@ -13,12 +13,6 @@ use Rattle.packets.proofs.mesh.MeshPacket.from_slice.Kinds as mesh-pack
 use Rattle.packets.proofs.mesh.MeshPacket.from_slice.Reads as mesh-packet-from-slice-reads
 use Rattle.packets.proofs.mesh.MeshPacket.write.Kinds as mesh-packet-write-kinds
 use Rattle.packets.proofs.mesh.MeshPacket.write.Reads as mesh-packet-write-reads
-use Rattle.packets.proofs.mesh.MeshPacket.encrypt.Kinds as mesh-packet-encrypt-kinds
-use Rattle.packets.proofs.mesh.MeshPacket.encrypt.Reads as mesh-packet-encrypt-reads
-use Rattle.packets.proofs.mesh.MeshPacket.decrypt.Kinds as mesh-packet-decrypt-kinds
-use Rattle.packets.proofs.mesh.MeshPacket.decrypt.Reads as mesh-packet-decrypt-reads
-use Rattle.packets.proofs.mesh.MeshPacket.decode.Kinds as mesh-packet-decode-kinds
-use Rattle.packets.proofs.mesh.MeshPacket.decode.Reads as mesh-packet-decode-reads
 
 packet-from-slice : Fixed 1 packet-from-slice-kinds.ps packet-from-slice-kinds.r packet-from-slice-reads.Post
 packet-from-slice κs a x y v w p q = (p ∙ sym q, refl)
@@ -34,12 +28,3 @@ mesh-packet-from-slice κs a x y v w p q = (p ∙ sym q, refl)
 
 mesh-packet-write : Fixed 7 mesh-packet-write-kinds.ps mesh-packet-write-kinds.r mesh-packet-write-reads.Post
 mesh-packet-write κs a x y v w p q = (p .0 ∙ sym (q .0), ap (λ (l : List ℕ). (tt, (tt, (tt, (tt, (tt, (tt, (tt, (tt, (l, tt)))))))))) (p .1 ∙ sym (q .1)))
-
-mesh-packet-encrypt : Fixed 7 mesh-packet-encrypt-kinds.ps mesh-packet-encrypt-kinds.r mesh-packet-encrypt-reads.Post
-mesh-packet-encrypt κs a x y v w p q = (p .0 ∙ sym (q .0), ap (λ (l : List ℕ). (tt, (tt, (tt, (tt, (tt, (tt, (tt, (tt, (tt, (l, tt))))))))))) (p .1 ∙ sym (q .1)))
-
-mesh-packet-decrypt : Fixed 2 mesh-packet-decrypt-kinds.ps mesh-packet-decrypt-kinds.r mesh-packet-decrypt-reads.Post
-mesh-packet-decrypt κs a x y v w p q = (p .0 ∙ sym (q .0), ap (λ (l : List ℕ). (tt, (tt, (tt, (l, tt))))) (p .1 ∙ sym (q .1)))
-
-mesh-packet-decode : Fixed 1 mesh-packet-decode-kinds.ps mesh-packet-decode-kinds.r mesh-packet-decode-reads.Post
-mesh-packet-decode κs a x y v w p q = (p ∙ sym q, refl)

@@ -23,6 +23,7 @@ use Rattle.events.specs.declared.stamped.EventRead.{EventRead}
 use Rattle.events.specs.declared.stamped.EventRead.the-variants.{Payload as EventIs, Refused as NoEvent}
 use Rattle.events.specs.declared.stamped.CommandRead.{CommandRead}
 use Rattle.events.specs.declared.stamped.CommandRead.the-variants.{Payload as CommandIs, Refused as NoCommand}
+use Rattle.packets.specs.declared.mesh.Payload.{Payload}
 use Rattle.packets.specs.declared.mesh.Payload.the-variants.{Uplink as AnUplink, Downlink as ADownlink, Event as AnEvent, Command as ACommand}
 use Rattle.packets.specs.declared.mesh.PayloadRead.{PayloadRead}
 use Rattle.packets.specs.declared.mesh.PayloadRead.the-variants.{Payload as PayloadIs, Refused as NoPayload}
@@ -85,6 +86,10 @@ packetOf s =
     pick (eqb (length s) 0) (NoPacket frameEmpty)
     (pick (ltb frameMost (length s)) (NoPacket frameLong)
     (pick (eqb (getD s 0 0 / 32) 7) (ofMesh (meshOf s)) (PacketIs (Lora (record { start = 0; len = length s })))))
+
+-- the packet as it was, but for the payload
+abbrev pub carrying : MeshPacket → Payload → MeshPacket
+carrying p q = record { mhdr = p .mhdr; payload = q; «has_mic» = p .«has_mic»; mic = p .mic }
 
 -- document 01's number, or the value
 abbrev pub meshSays : MeshRead → Answer MeshPacket

@@ -4,7 +4,6 @@ mod mesh;
 
 pub use any::Packet;
 pub use any::PacketRead;
-pub use mesh::MeshOpened;
 pub use mesh::MeshPacket;
 pub use mesh::MeshRead;
 pub use mesh::Payload;

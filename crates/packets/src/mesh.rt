@@ -4,23 +4,18 @@ ghost use mathlib.Core.Path.{_≡_};
 ghost use Rattle.base.specs.Answers.{answerOf, outOf};
 ghost use Rattle.packets.specs.Read.{payloadAt, meshOf};
 ghost use Rattle.packets.specs.Write.{payloadKinds, meshFrame};
-ghost use Rattle.packets.specs.Seal.{carrying, nothingToOpen, sealOf, meshSealed, ofEventOpened, ofCommandOpened, meshDecrypted, meshWork, meshDecoded};
 ghost use Rattle.bodies.specs.Body.{lent};
-use aes128::Aes128Key;
 use base::Limit;
 use base::Refusal;
 use base::Written;
-use events::CommandOpened;
 use events::CommandPayload;
 use events::CommandRead;
-use events::EventOpened;
 use events::EventPayload;
 use events::EventRead;
 use fields::HeaderByte;
 use fields::HeaderRead;
 use fields::MHDR;
 use fields::PayloadType;
-use items::Opening;
 use payloads::DownlinkPayload;
 use payloads::DownlinkRead;
 use payloads::UplinkPayload;
@@ -48,16 +43,6 @@ pub struct MeshPacket {
 
 pub enum MeshRead {
     Mesh(MeshPacket),
-    Refused(u8),
-}
-
-// What opening answers: the packet from now on, and what was in it.
-pub enum MeshOpened {
-    Opened {
-        packet: MeshPacket,
-        opening: Opening,
-    },
-    AlreadyOpen,
     Refused(u8),
 }
 
@@ -196,134 +181,6 @@ impl MeshPacket {
                     out,
                 ),
             },
-        }
-    }
-
-    // The packet with another payload.
-    fn carrying(self, payload: Payload) -> MeshPacket
-        ensures { λ r. ⌜ r ≡ carrying self payload ⌝ }
-    {
-        let mhdr = self.mhdr;
-        let has_mic = self.has_mic;
-        let mic = self.mic;
-        MeshPacket {
-            mhdr,
-            payload,
-            has_mic,
-            mic,
-        }
-    }
-
-    // An event's or a command's payload, sealed at the front of out: 29, 45, path entries, 19, 20, 5, 21. Of an uplink or a downlink nothing.
-    pub fn encrypt<'a>(
-        self,
-        key: Aes128Key,
-        frame: &'a [u8],
-        work: &'a [u8],
-        kinds: &[[u8; 2]],
-        spans: &[[u32; 2]],
-        ids: &[u32],
-        rssis: &[i16],
-        snrs: &[i8],
-        out: &mut [u8],
-    ) -> MeshRead
-        ensures answer { λ r. ⌜ r ≡ meshSealed (key .0) (lent (now (frame .entry)) (now (work .entry)) (now (kinds .entry)) (now (spans .entry)) (now (ids .entry)) (now (rssis .entry)) (now (snrs .entry))) self (self .payload) (now (out .entry)) ⌝ }
-        ensures bytes { λ _. ⌜ now (out .exit) ≡ outOf (sealOf (key .0) (lent (now (frame .entry)) (now (work .entry)) (now (kinds .entry)) (now (spans .entry)) (now (ids .entry)) (now (rssis .entry)) (now (snrs .entry))) (self .payload)) (now (out .entry)) ⌝ }
-    {
-        let payload = self.payload;
-        match payload {
-            Payload::Uplink(_) => MeshRead::Mesh(self),
-            Payload::Downlink(_) => MeshRead::Mesh(self),
-            Payload::Event(p) => match p.encrypt(
-                key,
-                frame,
-                work,
-                kinds,
-                spans,
-                ids,
-                rssis,
-                snrs,
-                out,
-            ) {
-                EventRead::Payload(q) => MeshRead::Mesh(self.carrying(Payload::Event(q))),
-                EventRead::Refused(n) => MeshRead::Refused(n),
-            },
-            Payload::Command(p) => match p.encrypt(
-                key,
-                frame,
-                work,
-                kinds,
-                spans,
-                ids,
-                rssis,
-                snrs,
-                out,
-            ) {
-                CommandRead::Payload(q) => MeshRead::Mesh(self.carrying(Payload::Command(q))),
-                CommandRead::Refused(n) => MeshRead::Refused(n),
-            },
-        }
-    }
-
-    fn of_event(self, o: EventOpened) -> MeshOpened
-        ensures { λ r. ⌜ r ≡ ofEventOpened self o ⌝ }
-    {
-        match o {
-            EventOpened::Refused(n) => MeshOpened::Refused(n),
-            EventOpened::AlreadyOpen => MeshOpened::AlreadyOpen,
-            EventOpened::Opened { payload, opening } => MeshOpened::Opened {
-                packet: self.carrying(Payload::Event(payload)),
-                opening,
-            },
-        }
-    }
-
-    fn of_command(self, o: CommandOpened) -> MeshOpened
-        ensures { λ r. ⌜ r ≡ ofCommandOpened self o ⌝ }
-    {
-        match o {
-            CommandOpened::Refused(n) => MeshOpened::Refused(n),
-            CommandOpened::AlreadyOpen => MeshOpened::AlreadyOpen,
-            CommandOpened::Opened { payload, opening } => MeshOpened::Opened {
-                packet: self.carrying(Payload::Command(payload)),
-                opening,
-            },
-        }
-    }
-
-    fn as_it_is(self) -> MeshOpened
-        ensures { λ r. ⌜ r ≡ nothingToOpen self ⌝ }
-    {
-        MeshOpened::Opened {
-            packet: self,
-            opening: Opening::none(),
-        }
-    }
-
-    // 22, 23, 45, 5, 21.
-    pub fn decrypt(self, key: Aes128Key, frame: &[u8], work: &mut [u8]) -> MeshOpened
-        ensures answer { λ r. ⌜ r ≡ meshDecrypted (key .0) self (self .payload) (now (frame .entry)) (now (work .entry)) ⌝ }
-        ensures work { λ _. ⌜ now (work .exit) ≡ meshWork (key .0) (self .payload) (now (frame .entry)) (now (work .entry)) ⌝ }
-    {
-        let payload = self.payload;
-        match payload {
-            Payload::Uplink(_) => self.as_it_is(),
-            Payload::Downlink(_) => self.as_it_is(),
-            Payload::Event(p) => self.of_event(p.decrypt(key, frame, work)),
-            Payload::Command(p) => self.of_command(p.decrypt(key, frame, work)),
-        }
-    }
-
-    // If sealed: 45, 5.
-    pub fn decode<'a>(self, frame: &'a [u8], work: &'a [u8]) -> MeshOpened
-        ensures { λ r. ⌜ r ≡ meshDecoded self (self .payload) (now (frame .entry)) (now (work .entry)) ⌝ }
-    {
-        let payload = self.payload;
-        match payload {
-            Payload::Uplink(_) => self.as_it_is(),
-            Payload::Downlink(_) => self.as_it_is(),
-            Payload::Event(p) => self.of_event(p.decode(frame, work)),
-            Payload::Command(p) => self.of_command(p.decode(frame, work)),
         }
     }
 }

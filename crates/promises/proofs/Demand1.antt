@@ -15,22 +15,22 @@ use Rattle.base.specs.Numbers.{outputShort, cacheMost}
 use Rattle.base.specs.Answers.{Answer, value, number, Frame, bytes, refused, answerOf, outOf, writtenSays, checkedOf, checkedSays, leftBy}
 use Rattle.base.proofs.Answers.{out-length}
 use Rattle.bodies.specs.Body.{Lent}
-use Rattle.bodies.specs.Open.{openedBy, sealWire, decryptOf, workAfter, Told, openedSays}
 use Rattle.bodies.specs.declared.body.Body.{Body}
 use Rattle.bodies.specs.declared.body.Body.the-variants.{Empty, Sealed, Open, Items}
-use Rattle.bodies.specs.declared.open.Opened.{Opened}
-use Rattle.bodies.specs.declared.open.Opened.the-variants as opened
 use Rattle.fields.specs.declared.path.RelayPath.{RelayPath}
 use Rattle.base.specs.declared.Written.{Written}
 use Rattle.base.specs.declared.Written.the-variants.{Bytes, Refused}
-use Rattle.events.specs.Seal.{eventSeal, eventSealed, commandSeal, commandSealed, eventOpened, commandOpened}
 use Rattle.events.specs.declared.stamped.EventPayload.{EventPayload}
 use Rattle.events.specs.declared.stamped.CommandPayload.{CommandPayload}
 use Rattle.packets.specs.Read.{meshSays}
-use Rattle.packets.specs.Seal.{ofEventSealed, ofCommandSealed, sealOf, meshSealed, ofEventOpened, ofCommandOpened, meshDecrypted, meshWork, meshOpenedSays}
 use Rattle.packets.specs.declared.mesh.Payload.{Payload}
 use Rattle.packets.specs.declared.mesh.Payload.the-variants as payload
 use Rattle.packets.specs.declared.mesh.MeshPacket.{MeshPacket}
+use Rattle.sealing.specs.Open.{openedBy, sealWire, decryptOf, workAfter, Told, openedSays}
+use Rattle.sealing.specs.Seal.{eventSeal, eventSealed, commandSeal, commandSealed, eventOpened, commandOpened}
+use Rattle.sealing.specs.Mesh.{ofEventSealed, ofCommandSealed, sealOf, meshSealed, ofEventOpened, ofCommandOpened, meshDecrypted, meshWork, meshOpenedSays}
+use Rattle.sealing.specs.declared.body.Opened.{Opened}
+use Rattle.sealing.specs.declared.body.Opened.the-variants as opened
 use Rattle.heartbeats.specs.Heartbeat.{beatRefusal, beatOf, pathAfter, beatSays}
 use Rattle.cache.specs.Cache.{has, addSays, packOf}
 use Rattle.cache.specs.inner.Ring.{ringCount, addedOf}

@@ -25,34 +25,33 @@ use Rattle.fields.specs.declared.header.PayloadType.the-variants.{Uplink, Downl
 use Rattle.items.specs.Items.{openingOf}
 use Rattle.items.proofs.Laws.{bytes-sum}
 use Rattle.composed.specs.Composed.{Lists}
-use Rattle.bodies.specs.Body.{Lent, bodyOf, bodyBytes}
-use Rattle.bodies.specs.Open.{decryptOf, openedBy, openedSays}
+use Rattle.bodies.specs.Body.{Lent, bodyOf, bodyBytes, framed}
 use Rattle.payloads.specs.Write.{downlinkHead}
 use Rattle.payloads.specs.Read.{heard}
 use Rattle.payloads.specs.declared.uplink.UplinkPayload.{UplinkPayload}
 use Rattle.payloads.specs.declared.downlink.DownlinkPayload.{DownlinkPayload}
-use Rattle.events.specs.Seal.{eventSeal, commandSeal}
 use Rattle.events.specs.declared.stamped.EventPayload.{EventPayload}
 use Rattle.events.specs.declared.stamped.CommandPayload.{CommandPayload}
-use Rattle.packets.specs.Read.{meshOf, packetOf, ofMesh, meshSays, packetSays}
+use Rattle.packets.specs.Read.{meshOf, packetOf, ofMesh, meshSays, packetSays, carrying}
 use Rattle.packets.specs.Write.{meshFrame, loraFrame, packetFrame}
 use Rattle.packets.specs.declared.mesh.Payload.the-variants as payload
 use Rattle.packets.specs.declared.mesh.MeshPacket.{MeshPacket}
 use Rattle.packets.specs.declared.mesh.MeshRead.{MeshRead}
 use Rattle.packets.specs.declared.mesh.MeshRead.the-variants.{Mesh, Refused}
 use Rattle.packets.specs.declared.any.Packet.the-variants.{Lora}
-use Rattle.trips.specs.Which.{meshNumber, packetNumber, cleared, framed}
+use Rattle.sealing.specs.Open.{decryptOf, openedBy, openedSays}
+use Rattle.sealing.specs.Seal.{eventSeal, commandSeal}
+use Rattle.sealing.proofs.Laws as sealed
+use Rattle.trips.specs.Which.{meshNumber, packetNumber, cleared}
 use Rattle.trips.proofs.Which.{which}
 use Rattle.trips.proofs.Same.{again}
 use Rattle.trips.proofs.Back.{uplink-back, downlink-back, event-back, command-back, lora-back, lora-again}
-use Rattle.trips.proofs.Sealed as sealed
 use Rattle.cache.specs.Cache.{sameRecord, answersLast, addSays}
 use Rattle.cache.specs.inner.Ring.{ringAnswers, newOf}
 use Rattle.cache.specs.declared.record.PayloadCache.{PayloadCache}
 use Rattle.cache.proofs.Laws.{same-is, adds-list, last-added}
 use Rattle.packed.specs.inner.Packed.{clearedWords, packedAnswers, SmallIds}
 use Rattle.packed.proofs.Laws.{packed-adds-list}
-use Rattle.packets.specs.Seal.{carrying}
 use Rattle.promises.specs.Said.{Accepts}
 use Rattle.promises.proofs.Said.{mesh-said, packet-said}
 use Rattle.promises.proofs.Refusals.{zero-accepts, accepts-zero, says-number, mesh-read, packet-read}

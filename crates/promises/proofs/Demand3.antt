@@ -12,8 +12,8 @@ use Rattle.base.specs.Answers.{Answer, value, number, Frame, bytes, refused, ch
 use Rattle.fips197.specs.Aes.{aes}
 use Rattle.packets.specs.Read.{meshOf, meshSays}
 use Rattle.packets.specs.Write.{meshFrame}
-use Rattle.packets.specs.Seal.{meshDecrypted, meshWork, meshDecoded, meshOpenedSays}
 use Rattle.packets.specs.declared.mesh.MeshPacket.{MeshPacket}
+use Rattle.sealing.specs.Mesh.{meshDecrypted, meshWork, meshDecoded, meshOpenedSays}
 use Rattle.mic.specs.Mic.{setMic, validateMic, validSays}
 use Rattle.cache.specs.Cache.{recordOf}
 use Rattle.hops.specs.Hops.{alone, carryingCount}

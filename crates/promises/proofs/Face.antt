@@ -20,11 +20,8 @@ use Rattle.fields.specs.declared.header.TypeRead.{TypeRead}
 use Rattle.fields.specs.declared.header.TypeRead.the-variants.{Kind, Refused as NoKind}
 use Rattle.items.specs.declared.count.Opening.{Opening}
 use Rattle.bodies.specs.Body.{Lent}
-use Rattle.bodies.specs.Open.{openedBy, sealWire, decryptOf, workAfter, Told, told, wasOpen, openedSays}
 use Rattle.bodies.specs.declared.body.Body.{Body}
 use Rattle.bodies.specs.declared.body.Body.the-variants.{Empty, Sealed, Open, Items}
-use Rattle.bodies.specs.declared.open.Opened.{Opened}
-use Rattle.bodies.specs.declared.open.Opened.the-variants as opened
 use Rattle.payloads.specs.Read.{uplinkAt, downlinkAt, uplinkSays, downlinkSays}
 use Rattle.payloads.specs.Write.{limitedOf}
 use Rattle.payloads.specs.declared.uplink.UplinkRead.{UplinkRead}
@@ -32,7 +29,6 @@ use Rattle.payloads.specs.declared.uplink.UplinkRead.the-variants as uplink
 use Rattle.payloads.specs.declared.downlink.DownlinkRead.{DownlinkRead}
 use Rattle.payloads.specs.declared.downlink.DownlinkRead.the-variants as downlink
 use Rattle.events.specs.Read.{eventAt, commandAt, eventSays, commandSays}
-use Rattle.events.specs.Seal.{eventOpened, commandOpened}
 use Rattle.events.specs.declared.stamped.EventPayload.{EventPayload}
 use Rattle.events.specs.declared.stamped.EventRead.{EventRead}
 use Rattle.events.specs.declared.stamped.EventRead.the-variants as event
@@ -41,15 +37,19 @@ use Rattle.events.specs.declared.stamped.CommandRead.{CommandRead}
 use Rattle.events.specs.declared.stamped.CommandRead.the-variants as command
 use Rattle.packets.specs.Read.{ofMesh, meshSays, packetSays}
 use Rattle.packets.specs.Write.{payloadWire, packetFrame}
-use Rattle.packets.specs.Seal.{sealOf, meshSealed, ofEventOpened, ofCommandOpened, meshDecrypted, meshWork, meshDecoded, meshOpenedSays}
 use Rattle.packets.specs.declared.mesh.Payload.{Payload}
 use Rattle.packets.specs.declared.mesh.Payload.the-variants as payload
 use Rattle.packets.specs.declared.mesh.MeshPacket.{MeshPacket}
 use Rattle.packets.specs.declared.mesh.MeshRead.{MeshRead}
 use Rattle.packets.specs.declared.mesh.MeshRead.the-variants.{Mesh, Refused as NoMesh}
-use Rattle.packets.specs.declared.mesh.MeshOpened.the-variants.{Refused as NotOpened}
 use Rattle.packets.specs.declared.any.PacketRead.{PacketRead}
 use Rattle.packets.specs.declared.any.PacketRead.the-variants as packet
+use Rattle.sealing.specs.Open.{openedBy, sealWire, decryptOf, workAfter, Told, told, wasOpen, openedSays}
+use Rattle.sealing.specs.Seal.{eventOpened, commandOpened}
+use Rattle.sealing.specs.Mesh.{sealOf, meshSealed, ofEventOpened, ofCommandOpened, meshDecrypted, meshWork, meshDecoded, meshOpenedSays}
+use Rattle.sealing.specs.declared.body.Opened.{Opened}
+use Rattle.sealing.specs.declared.body.Opened.the-variants as opened
+use Rattle.sealing.specs.declared.mesh.MeshOpened.the-variants.{Refused as NotOpened}
 use Rattle.mic.specs.Mic.{setMic, validateMic, validSays}
 use Rattle.mic.specs.declared.Validated.the-variants.{Refused as NotValidated}
 use Rattle.hops.specs.Hops.{leaves}

@@ -46,11 +46,8 @@ use Rattle.wire.specs.Hex.{allHex}
 use Rattle.wire.specs.Run.{runRefusal, runBytes}
 use Rattle.wire.specs.declared.run.Run.{Run}
 use Rattle.bodies.specs.Body.{Lent, heldIn, bodyRefusal, bodyBytes, bodyWire}
-use Rattle.bodies.specs.Open.{refusedOr, openRefusal, openedBy, sealWire, readSealed, refuseOpen, tellOpen, decryptOf, decodeOf, openedSays}
 use Rattle.bodies.specs.declared.body.Body.{Body}
 use Rattle.bodies.specs.declared.body.Body.the-variants.{Empty, Sealed, Open, Items}
-use Rattle.bodies.specs.declared.open.Opened.{Opened}
-use Rattle.bodies.specs.declared.open.Opened.the-variants.{Opened as Now, AlreadyOpen, Refused as NotOpened}
 use Rattle.payloads.specs.Read.{uplinkAt, downlinkAt, uplinkSays, downlinkSays}
 use Rattle.payloads.specs.Write.{followed, headedBy, limited, limitedOf, withMic, uplinkHead, uplinkWire, downlinkHead, downlinkWire}
 use Rattle.payloads.specs.declared.uplink.UplinkPayload.{UplinkPayload}
@@ -61,20 +58,14 @@ use Rattle.payloads.specs.declared.downlink.DownlinkRead.{DownlinkRead}
 use Rattle.payloads.specs.declared.downlink.DownlinkRead.the-variants as downlink
 use Rattle.events.specs.Read.{stampedAt, asEvent, asCommand, eventAt, commandAt, eventSays, commandSays}
 use Rattle.events.specs.Write.{stamp, stampedWire, eventWire, commandWire}
-use Rattle.events.specs.Seal.{stampedSeal, eventSeal, eventSealed, commandSeal, commandSealed, eventOpened, commandOpened, eventOpenedSays, commandOpenedSays}
 use Rattle.events.specs.declared.stamped.EventPayload.{EventPayload}
 use Rattle.events.specs.declared.stamped.EventRead.{EventRead}
 use Rattle.events.specs.declared.stamped.EventRead.the-variants as event
-use Rattle.events.specs.declared.stamped.EventOpened.{EventOpened}
-use Rattle.events.specs.declared.stamped.EventOpened.the-variants as event-opened
 use Rattle.events.specs.declared.stamped.CommandPayload.{CommandPayload}
 use Rattle.events.specs.declared.stamped.CommandRead.{CommandRead}
 use Rattle.events.specs.declared.stamped.CommandRead.the-variants as command
-use Rattle.events.specs.declared.stamped.CommandOpened.{CommandOpened}
-use Rattle.events.specs.declared.stamped.CommandOpened.the-variants as command-opened
 use Rattle.packets.specs.Read.{bodyIn, ofUplink, ofDownlink, ofEvent, ofCommand, payloadAt, withPayload, withHeader, meshOf, ofMesh, packetOf, meshSays, packetSays}
 use Rattle.packets.specs.Write.{payloadWire, kindsIn, behind, messageOf, meshFrame, loraFrame, packetFrame}
-use Rattle.packets.specs.Seal.{ofEventSealed, ofCommandSealed, meshSealed, ofEventOpened, ofCommandOpened, meshDecrypted, meshDecoded, meshOpenedSays}
 use Rattle.packets.specs.declared.mesh.Payload.{Payload}
 use Rattle.packets.specs.declared.mesh.Payload.the-variants.{Uplink, Downlink, Event, Command}
 use Rattle.packets.specs.declared.mesh.PayloadRead.{PayloadRead}
@@ -84,6 +75,15 @@ use Rattle.packets.specs.declared.mesh.MeshRead.{MeshRead}
 use Rattle.packets.specs.declared.mesh.MeshRead.the-variants.{Mesh, Refused as NoMesh}
 use Rattle.packets.specs.declared.any.Packet.{Packet}
 use Rattle.packets.specs.declared.any.Packet.the-variants.{Mesh as AMesh, Lora}
+use Rattle.sealing.specs.Open.{refusedOr, openRefusal, openedBy, sealWire, readSealed, refuseOpen, tellOpen, decryptOf, decodeOf, openedSays}
+use Rattle.sealing.specs.Seal.{bodySeal, eventSeal, eventSealed, commandSeal, commandSealed, eventOpened, commandOpened, eventOpenedSays, commandOpenedSays}
+use Rattle.sealing.specs.Mesh.{ofEventSealed, ofCommandSealed, meshSealed, ofEventOpened, ofCommandOpened, meshDecrypted, meshDecoded, meshOpenedSays}
+use Rattle.sealing.specs.declared.body.Opened.{Opened}
+use Rattle.sealing.specs.declared.body.Opened.the-variants.{Opened as Now, AlreadyOpen, Refused as NotOpened}
+use Rattle.sealing.specs.declared.event.EventOpened.{EventOpened}
+use Rattle.sealing.specs.declared.event.EventOpened.the-variants as event-opened
+use Rattle.sealing.specs.declared.command.CommandOpened.{CommandOpened}
+use Rattle.sealing.specs.declared.command.CommandOpened.the-variants as command-opened
 use Rattle.base.specs.declared.Checked.{Checked}
 use Rattle.base.specs.declared.Written.{Written}
 use Rattle.base.specs.declared.Written.the-variants.{Bytes, Refused as NotWritten}
@@ -400,11 +400,11 @@ packet-frame l (Lora r) = lora-frame (l .frame) r
 -- ---- sealed and opened
 
 event-seal : (key : List ℕ) (l : Lent) (u : EventPayload) → Numbered (frameSays (eventSeal key l u))
-unfolding eventSeal stampedSeal
+unfolding eventSeal bodySeal
 event-seal key l u = unless (bodyRefusal true l (u .events)) _ (stream key false (u .«relay_id») (u .timestamp) (bodyBytes true l (u .events)))
 
 command-seal : (key : List ℕ) (l : Lent) (u : CommandPayload) → Numbered (frameSays (commandSeal key l u))
-unfolding commandSeal stampedSeal
+unfolding commandSeal bodySeal
 command-seal key l u = unless (bodyRefusal false l (u .commands)) _ (stream key true (u .«relay_id») (u .timestamp) (bodyBytes false l (u .commands)))
 
 event-sealed : (u : EventPayload) (w : Written) → Numbered (writtenSays w) → Numbered (eventSays (eventSealed u w))

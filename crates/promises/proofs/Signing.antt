@@ -20,15 +20,15 @@ use Rattle.bodies.specs.declared.body.Body.{Body}
 use Rattle.bodies.specs.declared.body.Body.the-variants.{Empty, Sealed, Open, Items}
 use Rattle.payloads.specs.Write.{headedBy, limitedOf, withMic}
 use Rattle.events.specs.Write.{stamp, stampedWire, eventWire, commandWire}
-use Rattle.events.specs.Seal.{stampedSeal, eventSeal, eventSealed, commandSeal, commandSealed}
 use Rattle.packets.specs.Read.{meshSays}
 use Rattle.packets.specs.Write.{payloadWire, payloadKinds, kindsIn, messageOf, meshFrame}
-use Rattle.packets.specs.Seal.{ofEventSealed, ofCommandSealed, meshSealed}
 use Rattle.packets.proofs.Laws.{message-strange, strange-29}
 use Rattle.packets.specs.declared.mesh.Payload.{Payload}
 use Rattle.packets.specs.declared.mesh.Payload.the-variants as payload
 use Rattle.packets.specs.declared.mesh.MeshPacket.{MeshPacket}
 use Rattle.packets.specs.declared.mesh.MeshRead.the-variants.{Mesh}
+use Rattle.sealing.specs.Seal.{bodySeal, eventSeal, eventSealed, commandSeal, commandSealed}
+use Rattle.sealing.specs.Mesh.{ofEventSealed, ofCommandSealed, meshSealed}
 use Rattle.mic.specs.declared.Validated.the-variants.{Valid, Invalid, Refused as NotValidated}
 use Rattle.promises.proofs.Said.{mesh-said}
 use Rattle.mic.specs.Mic.{micOf, fitting, signedOf, carryingMic, signedBy, setMic, comparedBy, validateMic, validSays}
@@ -98,7 +98,7 @@ module _ (l : Lent) where
   wire-strange (payload.Command u) h = ap (headedBy (stamp (u .timestamp) (u .«relay_id»))) (body-strange false (u .commands) _ h)
 
   seal-strange : (key : List ℕ) (p : MeshPacket) (q : Payload) (o : List ℕ) → (payloadKinds (l .lists .kinds) (l .lists .spans) q ≡ 0 → ⊥) → meshSays (meshSealed key l p q o) ≡ number typeLarge
-  unfolding meshSealed payloadKinds eventSeal commandSeal stampedSeal eventSealed commandSealed answerOf
+  unfolding meshSealed payloadKinds eventSeal commandSeal bodySeal eventSealed commandSealed answerOf
   seal-strange key p (payload.Uplink u) o h = absurd (h refl)
   seal-strange key p (payload.Downlink u) o h = absurd (h refl)
   seal-strange key p (payload.Event u) o h = ap (λ (f : Frame). meshSays (ofEventSealed p (eventSealed u (answerOf f o)))) (body-strange true (u .events) _ h)

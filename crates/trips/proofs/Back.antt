@@ -32,7 +32,7 @@ use Rattle.events.specs.declared.stamped.EventPayload.{EventPayload}
 use Rattle.events.specs.declared.stamped.CommandPayload.{CommandPayload}
 use Rattle.payloads.proofs.Laws.{run-bytes, uplink-length, downlink-length, uplink-read-back, downlink-read-back}
 use Rattle.events.proofs.Laws.{stamp-length, stamped-bytes, event-read-back, command-read-back}
-use Rattle.packets.specs.Read.{ofUplink, ofDownlink, ofEvent, ofCommand, payloadAt, meshOf, ofMesh, packetOf}
+use Rattle.packets.specs.Read.{ofUplink, ofDownlink, ofEvent, ofCommand, payloadAt, meshOf, ofMesh, packetOf, carrying}
 use Rattle.packets.specs.Write.{payloadWire, meshFrame, loraFrame}
 use Rattle.packets.specs.declared.mesh.Payload.{Payload}
 use Rattle.packets.specs.declared.mesh.Payload.the-variants.{Uplink as AnUplink, Downlink as ADownlink, Event as AnEvent, Command as ACommand}
@@ -44,10 +44,9 @@ use Rattle.packets.specs.declared.any.Packet.the-variants.{Lora}
 use Rattle.packets.specs.declared.any.PacketRead.the-variants.{Packet as PacketIs, Refused as NoPacket}
 use Rattle.trips.proofs.Trip.{Made, made, readAs, frame-read}
 use Rattle.trips.proofs.Same.{inside}
-use Rattle.packets.specs.Seal.{carrying}
 
 -- the part behind x is v
-pub part-behind : (x v y : List ℕ) (n : ℕ) → length x ≡ n → partOf ((x ++ v) ++ y) n (length v) ≡ v
+part-behind : (x v y : List ℕ) (n : ℕ) → length x ≡ n → partOf ((x ++ v) ++ y) n (length v) ≡ v
 unfolding partOf
 part-behind x v y n e =
     let l : length ((x ++ v) ++ y) ≡ length x + length v + length y = simp length-append in

@@ -3,4 +3,3 @@ pub mod Trip
 pub mod Again
 pub mod Same
 pub mod Back
-pub mod Sealed

@@ -29,7 +29,7 @@ use Rattle.payloads.specs.Write.{followed, withRun, uplinkHead, uplinkWire, dow
 use Rattle.events.specs.Write.{stamp, stampedWire, eventWire, commandWire}
 use Rattle.wire.specs.declared.run.Run.{Run}
 use Rattle.composed.specs.Composed.{Lists}
-use Rattle.bodies.specs.Body.{bodyRefusal, bodyBytes, bodyWire}
+use Rattle.bodies.specs.Body.{bodyRefusal, bodyBytes, bodyWire, framed}
 use Rattle.bodies.specs.declared.body.Body.{Body}
 use Rattle.bodies.specs.declared.body.Body.the-variants.{Empty, Sealed}
 use Rattle.payloads.specs.declared.uplink.UplinkPayload.{UplinkPayload}
@@ -48,7 +48,7 @@ use Rattle.payloads.proofs.Laws.{uplink-was, uplink-again, downlink-was, downli
 use Rattle.events.proofs.Laws.{event-was, event-again, command-was, command-again}
 use Rattle.packets.specs.Read.{bodyIn, ofUplink, ofDownlink, ofEvent, ofCommand, payloadAt, meshOf}
 use Rattle.packets.specs.Write.{payloadWire, meshFrame}
-use Rattle.trips.specs.Which.{cleared, framed}
+use Rattle.trips.specs.Which.{cleared}
 use Rattle.packets.specs.declared.mesh.Payload.{Payload}
 use Rattle.packets.specs.declared.mesh.Payload.the-variants.{Uplink as AnUplink, Downlink as ADownlink, Event as AnEvent, Command as ACommand}
 use Rattle.packets.specs.declared.mesh.PayloadRead.the-variants.{Payload as PayloadIs}

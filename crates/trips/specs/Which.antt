@@ -6,8 +6,6 @@ use lib.Dec.{ltb, eqb}
 use lib.ListN.{length, getD, set}
 use Rattle.base.specs.Pick.{pick}
 use Rattle.base.specs.Numbers.{frameEmpty, frameShort, notMesh, bodyShort, frameLong, frameMost}
-use Rattle.composed.specs.Composed.{Lists}
-use Rattle.bodies.specs.Body.{Lent}
 
 -- by the type's code: uplink 14, downlink 15, event and command 13
 abbrev pub leastFrame : ℕ → ℕ
@@ -32,7 +30,3 @@ lowSix s i = set s i (getD s i 0 % 64)
 -- a frame with an uplink's two ignored bits as 0: byte 4 of it is the snr byte
 unfoldable pub cleared : List ℕ → List ℕ
 cleared s = pick (eqb (getD s 0 0 / 8 % 4) 0) (lowSix s 4) s
-
--- a frame, and whatever else is lent with it
-abbrev pub framed : List ℕ → Lists → Lent
-framed s x = record { frame = s; lists = x }

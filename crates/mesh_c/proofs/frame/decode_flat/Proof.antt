@@ -1,10 +1,10 @@
 -- `mesh_c::frame::decode_flat` meets its contract. Assumes nothing.
 use mathlib.Core.Path.{sym, ap, _∙_}
 use denote.Ref.{now}
-use Rattle.packets.specs.Seal.{meshDecoded}
 use Rattle.packets.specs.declared.mesh.MeshPacket.{MeshPacket}
+use Rattle.sealing.specs.Mesh.{meshDecoded}
+use Rattle.sealing.specs.declared.mesh.MeshOpened.the-variants.{Refused as NotOpened}
 use Rattle.mesh_c.specs.Face.{ifMesh, flatDecoded}
-use Rattle.packets.specs.declared.mesh.MeshOpened.the-variants.{Refused as NotOpened}
 use borrow.Author.Needs.{needs}
 use Rattle.mesh_c.proofs.frame.decode_flat.Statement.{statement}
 use Rattle.mesh_c.proofs.frame.decode_flat.Tie as tie

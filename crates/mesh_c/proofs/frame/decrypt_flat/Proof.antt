@@ -2,10 +2,10 @@
 use mathlib.Core.Path.{sym, ap, _∙_}
 use Prim.Native.Nat.{ℕ}
 use denote.Ref.{now}
-use Rattle.packets.specs.Seal.{meshDecrypted, meshWork}
 use Rattle.packets.specs.declared.mesh.MeshPacket.{MeshPacket}
+use Rattle.sealing.specs.Mesh.{meshDecrypted, meshWork}
+use Rattle.sealing.specs.declared.mesh.MeshOpened.the-variants.{Refused as NotOpened}
 use Rattle.mesh_c.specs.Face.{ifMesh, flatDecrypted, flatWork}
-use Rattle.packets.specs.declared.mesh.MeshOpened.the-variants.{Refused as NotOpened}
 use borrow.Author.Needs.{needs}
 use Rattle.mesh_c.proofs.frame.decrypt_flat.Statement.{statement}
 use Rattle.mesh_c.proofs.frame.decrypt_flat.Tie as tie

@@ -2,8 +2,8 @@
 use mathlib.Core.Path.{ap, _∙_}
 use mir.Facts.{toZ-ofZ}
 use denote.Ref.{now}
-use Rattle.packets.specs.Seal.{meshOpenedSays}
-use Rattle.packets.specs.declared.mesh.MeshOpened.{MeshOpened}
+use Rattle.sealing.specs.Mesh.{meshOpenedSays}
+use Rattle.sealing.specs.declared.mesh.MeshOpened.{MeshOpened}
 use Rattle.mesh_c.specs.Face.{openedNumber, countsLeft, placeLeft}
 use borrow.Author.Needs.{needs}
 use Rattle.mesh_c.proofs.frame.mesh_decode.Statement.{statement}

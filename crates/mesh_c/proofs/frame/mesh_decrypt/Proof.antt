@@ -3,8 +3,8 @@ use mathlib.Core.Path.{ap, _∙_}
 use mir.Facts.{toZ-ofZ}
 use denote.Ref.{now}
 use Rattle.aes128.specs.declared.Aes128Key.{Aes128Key}
-use Rattle.packets.specs.Seal.{meshOpenedSays}
-use Rattle.packets.specs.declared.mesh.MeshOpened.{MeshOpened}
+use Rattle.sealing.specs.Mesh.{meshOpenedSays}
+use Rattle.sealing.specs.declared.mesh.MeshOpened.{MeshOpened}
 use Rattle.mesh_c.specs.Face.{flatBy, flatDecrypted, flatWork, openedNumber, countsLeft, placeLeft}
 use borrow.Author.Needs.{needs}
 use Rattle.mesh_c.proofs.frame.mesh_decrypt.Statement.{statement}

@@ -1,9 +1,9 @@
 -- `mesh_c::frame::put_opened` meets its contract. Assumes nothing.
 use mathlib.Core.Path.{sym, ap, _∙_}
 use denote.Ref.{now}
-use Rattle.packets.specs.Seal.{meshOpenedSays}
-use Rattle.packets.specs.declared.mesh.MeshOpened.{MeshOpened}
 use Rattle.flat.specs.Flat.{placed}
+use Rattle.sealing.specs.Mesh.{meshOpenedSays}
+use Rattle.sealing.specs.declared.mesh.MeshOpened.{MeshOpened}
 use Rattle.mesh_c.specs.Face.{openedNumber, countsLeft, placeLeft}
 use borrow.Author.Needs.{needs}
 use Rattle.mesh_c.proofs.frame.put_opened.Statement.{statement}

@@ -3,11 +3,11 @@ use mathlib.Core.Path.{sym, ap, _∙_}
 use denote.Ref.{now}
 use Rattle.base.specs.Answers.{outOf, refused}
 use Rattle.bodies.specs.Body.{lent}
-use Rattle.packets.specs.Seal.{sealOf, meshSealed}
 use Rattle.packets.specs.declared.mesh.MeshRead.{MeshRead}
 use Rattle.packets.specs.declared.mesh.MeshPacket.{MeshPacket}
 use Rattle.mesh_c.specs.Face.{ifMesh, flatSealed, flatSeal}
 use Rattle.packets.specs.declared.mesh.MeshRead.the-variants.{Refused as NoMesh}
+use Rattle.sealing.specs.Mesh.{sealOf, meshSealed}
 use borrow.Author.Needs.{needs}
 use Rattle.mesh_c.proofs.frame.seal_flat.Statement.{statement}
 use Rattle.mesh_c.proofs.frame.seal_flat.Tie as tie

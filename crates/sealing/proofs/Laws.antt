@@ -1,0 +1,106 @@
+-- Sealing and opening undo each other: what is sealed, sealed again, is the clear bytes, still marked sealed; and opened it has the items
+-- of the clear bytes. For every length, key and kind, and whatever else is lent. Assumes nothing.
+use Prim.Native.Nat.{ℕ, _+_}
+use native.Mathlib.Omega.{arith}
+use mathlib.Core.Bool.{Bool, true, false, not}
+use mathlib.Core.Path.{_≡_, refl, sym, ap, _∙_}
+use mathlib.Core.List.{List, [], _∷_, _++_}
+use lib.Dec.{eqb}
+use lib.ListN.{length, length-append}
+use borrow.Author.Tests.{eqb-true, le-ltb}
+use Rattle.base.specs.Pick.{pick}
+use Rattle.base.specs.Answers.{Frame, bytes}
+use Rattle.wire.specs.Part.{reachNumber}
+use Rattle.wire.specs.Run.{runRefusal, runBytes}
+use Rattle.wire.specs.declared.run.Run.{Run}
+use Rattle.base.proofs.Answers.{not-refused, unless-bytes}
+use Rattle.wire.proofs.Laws.Part.{inside}
+use Rattle.seal.specs.Stream.{streamed, sealedOf}
+use Rattle.seal.proofs.Laws.{seal-twice}
+use Rattle.items.specs.Items.{openingOf}
+use Rattle.items.proofs.Laws.{no-pieces}
+use Rattle.composed.specs.Composed.{Lists}
+use Rattle.bodies.specs.Body.{Lent, framed, bodyOf, bodyRefusal, bodyBytes}
+use Rattle.bodies.specs.declared.body.Body.{Body}
+use Rattle.bodies.specs.declared.body.Body.the-variants.{Empty, Sealed}
+use Rattle.events.specs.declared.stamped.EventPayload.{EventPayload}
+use Rattle.events.specs.declared.stamped.CommandPayload.{CommandPayload}
+use Rattle.sealing.specs.Open.{nothingIn, sealWire, openedBy, decryptOf}
+use Rattle.sealing.specs.Seal.{bodySeal, eventSeal, commandSeal}
+use Rattle.sealing.proofs.Steps.{part-front}
+
+-- a run at the front of what is lent lies inside, and is what stands there
+module _ (w rest : List ℕ) where
+  abbrev front : Run
+  front = record { start = 0; len = length w }
+
+  front-inside : runRefusal (length (w ++ rest)) front ≡ 0
+  unfolding runRefusal
+  front-inside = let l = length-append w rest in ap reachNumber (inside (length (w ++ rest)) 0 (length w) (omega arith))
+
+  front-bytes : runBytes (w ++ rest) front ≡ w
+  front-bytes = part-front w rest
+
+twice-not : (b : Bool) → not (not b) ≡ b
+twice-not true = refl
+twice-not false = refl
+
+-- no bytes, sealed and opened, are nothing
+nothing-opened : (ev : Bool) (key : List ℕ) (relay time : ℕ) (k : List ℕ) → openedBy ev (sealedOf key (not ev) relay time []) k ≡ nothingIn
+unfolding openedBy sealedOf streamed openingOf
+nothing-opened ev key relay time k = simp (le-ltb (length k) 0 (omega arith), no-pieces ev)
+
+none : (w : List ℕ) → length w ≡ 0 → w ≡ []
+none [] e = refl
+none (x ∷ w) e = absurd (omega arith)
+
+module _ (ev : Bool) (key : List ℕ) (relay time : ℕ) (l : Lent) (b : Body) (w : List ℕ) (sealed : bodySeal key ev relay time l b ≡ bytes w) where
+  unsealed : sealedOf key (not ev) relay time w ≡ bytes (bodyBytes ev l b)
+  unfolding bodySeal
+  unsealed =
+      seal-twice key (not ev) relay time (bodyBytes ev l b) w
+      (unless-bytes (bodyRefusal ev l b) (sealedOf key (not ev) relay time (bodyBytes ev l b)) w sealed .1)
+
+  -- as it lies at the front of the output, which is the frame from then on
+  module _ (rest : List ℕ) where
+    again-by : (x : Lists) (t : Bool) → eqb (length w) 0 ≡ t → bodySeal key ev relay time (framed (w ++ rest) x) (pick t Empty (Sealed (front w rest))) ≡ bytes (bodyBytes ev l b)
+    unfolding bodySeal bodyRefusal bodyBytes
+    again-by x true e = ap (sealedOf key (not ev) relay time) (sym (none w (eqb-true _ _ e))) ∙ unsealed
+    again-by x false e =
+        sym (not-refused (runRefusal (length (w ++ rest)) (front w rest)) (sealedOf key (not ev) relay time (runBytes (w ++ rest) (front w rest))) (front-inside w rest))
+        ∙ ap (sealedOf key (not ev) relay time) (front-bytes w rest) ∙ unsealed
+
+    opened-by : (k : List ℕ) (t : Bool) → eqb (length w) 0 ≡ t
+        → decryptOf key (not ev) relay time (pick t Empty (Sealed (front w rest))) (w ++ rest) k ≡ openedBy ev (bytes (bodyBytes ev l b)) k
+    unfolding decryptOf
+    opened-by k true e = sym (ap (λ (f : Frame). openedBy ev f k) (sym unsealed ∙ ap (sealedOf key (not ev) relay time) (none w (eqb-true _ _ e))) ∙ nothing-opened ev key relay time k)
+    opened-by k false e =
+        ap (λ (v : Bool). openedBy v (sealWire key (not ev) relay time (w ++ rest) (front w rest)) k) (twice-not ev)
+        ∙ ap (λ (f : Frame). openedBy ev f k)
+        (sym (not-refused (runRefusal (length (w ++ rest)) (front w rest)) (sealedOf key (not ev) relay time (runBytes (w ++ rest) (front w rest))) (front-inside w rest))
+        ∙ ap (sealedOf key (not ev) relay time) (front-bytes w rest) ∙ unsealed)
+
+-- ---- events and commands
+
+module _ (key : List ℕ) (l : Lent) (w rest : List ℕ) (x : Lists) where
+  -- sealed again it is the clear bytes, and `bodyOf` marks it sealed
+  pub event-again : (u : EventPayload) → eventSeal key l u ≡ bytes w
+      → eventSeal key (framed (w ++ rest) x) (record { timestamp = u .timestamp; «relay_id» = u .«relay_id»; events = bodyOf 0 (length w) }) ≡ bytes (bodyBytes true l (u .events))
+  unfolding eventSeal
+  event-again u e = again-by true key (u .«relay_id») (u .timestamp) l (u .events) w e rest x (eqb (length w) 0) refl
+
+  pub command-again : (u : CommandPayload) → commandSeal key l u ≡ bytes w
+      → commandSeal key (framed (w ++ rest) x) (record { timestamp = u .timestamp; «relay_id» = u .«relay_id»; commands = bodyOf 0 (length w) }) ≡ bytes (bodyBytes false l (u .commands))
+  unfolding commandSeal
+  command-again u e = again-by false key (u .«relay_id») (u .timestamp) l (u .commands) w e rest x (eqb (length w) 0) refl
+
+  -- opened it has what the clear bytes have, with 21 where the work buffer k is too short for them
+  pub event-opened : (u : EventPayload) (k : List ℕ) → eventSeal key l u ≡ bytes w
+      → decryptOf key false (u .«relay_id») (u .timestamp) (bodyOf 0 (length w)) (w ++ rest) k ≡ openedBy true (bytes (bodyBytes true l (u .events))) k
+  unfolding eventSeal
+  event-opened u k e = opened-by true key (u .«relay_id») (u .timestamp) l (u .events) w e rest k (eqb (length w) 0) refl
+
+  pub command-opened : (u : CommandPayload) (k : List ℕ) → commandSeal key l u ≡ bytes w
+      → decryptOf key true (u .«relay_id») (u .timestamp) (bodyOf 0 (length w)) (w ++ rest) k ≡ openedBy false (bytes (bodyBytes false l (u .commands))) k
+  unfolding commandSeal
+  command-opened u k e = opened-by false key (u .«relay_id») (u .timestamp) l (u .commands) w e rest k (eqb (length w) 0) refl

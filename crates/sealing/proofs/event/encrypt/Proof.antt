@@ -1,0 +1,31 @@
+-- `sealing::event::encrypt` meets its contract. Assumes nothing.
+use lib.ListN.{length}
+use mathlib.Core.Path.{sym, ap, _∙_}
+use Rattle.base.proofs.Answers.{out-length}
+use Rattle.bodies.specs.declared.body.Body.{Body}
+use Rattle.events.specs.declared.stamped.EventRead.the-variants.{Payload}
+use Rattle.sealing.specs.Seal.{eventSeal, eventSealed}
+use borrow.Author.Needs.{needs}
+use Rattle.sealing.proofs.event.encrypt.Statement.{statement}
+use Rattle.sealing.proofs.event.encrypt.Tie as tie
+
+same-length : tie.Need-same-length
+same-length c = ap length (c .before .before .before .before .before .encrypt .ensures .1) ∙ out-length _ _
+
+returns : tie.Need-returns
+unfolding eventSeal eventSealed
+returns c = let p = c .before .before .before .before .before .before .before .before .before .before .before .args .payload in
+    let w = c .before .before .before .before .before .encrypt .ensures in
+    (ap (eventSealed p) (sym (c .before .n .given .1) ∙ w .0), w .1)
+
+same-length-2 : tie.Need-same-length-2
+same-length-2 c = ap length (c .before .before .before .before .before .before .encrypt .ensures .1) ∙ out-length _ _
+
+returns-2 : tie.Need-returns-2
+unfolding eventSeal eventSealed
+returns-2 c = let p = c .before .before .before .before .before .before .before .before .before .before .before .before .args .payload in
+    let w = c .before .before .before .before .before .before .encrypt .ensures in
+    (ap (λ (b : Body). Payload (record { timestamp = p .timestamp; «relay_id» = p .«relay_id»; events = b })) (c .of .ensures) ∙ ap (eventSealed p) (sym (c .before .before .n2 .given .1) ∙ w .0), w .1)
+
+pub encrypt-spec : {M : Type 1} → statement M
+encrypt-spec = tie.close (tie.spec (λ c κs. search needs) (λ c. search needs) (λ c. search needs) (λ c κs. search needs) same-length returns same-length-2 returns-2)
