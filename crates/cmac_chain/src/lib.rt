@@ -1,5 +1,5 @@
-// What CMAC (RFC 4493) does beside its cipher, and below any: the doubling that makes subkeys, and bytes added
-// to the block in hand.
+// What CMAC (RFC 4493) does beside its cipher: the doubling that makes subkeys, and bytes added to the block in hand. It calls no cipher, and
+// what is proved of it holds for any.
 ghost use mathlib.Core.Path.{_≡_};
 ghost use mathlib.Core.List.{foldl};
 ghost use Prim.Native.Nat.{_+_, _*_, _/_, _%_};

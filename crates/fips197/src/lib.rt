@@ -1,4 +1,4 @@
-// What FIPS 197 gives as numbers: the S-box, and multiplication by x. The cipher's definition is in specs/; aes128 has the code that meets it.
+// What FIPS 197 gives as numbers: the S-box, and multiplication by x. The cipher's definition is in specs/; `cipher` has the code that meets it.
 ghost use mathlib.Core.Path.{_≡_};
 ghost use Rattle.fips197.specs.Field.{xtime};
 ghost use Rattle.fips197.specs.Aes.{sboxTable};
