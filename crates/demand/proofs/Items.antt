@@ -1,6 +1,6 @@
 -- Opening reads of a frame only its length and the run behind the relay id: two frames that agree in these open alike. Assumes nothing.
 use Prim.Native.Nat.{ℕ}
-use mathlib.Core.Bool.{Bool, true, false, not}
+use mathlib.Core.Bool.{Bool, true, false}
 use mathlib.Core.Path.{_≡_, refl, sym, ap, ap₂, _∙_}
 use mathlib.Core.List.{List, []}
 use lib.Dec.{ltb, eqb}
@@ -45,19 +45,19 @@ module _ (f g : List ℕ) (r : Run) (long : length g ≡ length f) (same : runBy
   payload-by _ nowhere k = refl
   payload-by _ there k = same
 
-  module _ (key : List ℕ) (c : Bool) (relay time : ℕ) where
-    seal-same : sealWire key c relay time g r ≡ sealWire key c relay time f r
-    seal-same = ap₂ (λ (n : ℕ) (v : List ℕ). unlessRefused (runRefusal n r) (sealedOf key c relay time v)) long same
+  module _ (key : List ℕ) (ev : Bool) (relay time : ℕ) where
+    seal-same : sealWire key ev relay time g r ≡ sealWire key ev relay time f r
+    seal-same = ap₂ (λ (n : ℕ) (v : List ℕ). unlessRefused (runRefusal n r) (sealedOf key ev relay time v)) long same
 
-    work-by : (b : Body) → Placed r b → (k : List ℕ) → workAfter key c relay time b g k ≡ workAfter key c relay time b f k
+    work-by : (b : Body) → Placed r b → (k : List ℕ) → workAfter key ev relay time b g k ≡ workAfter key ev relay time b f k
     unfolding workAfter
     work-by _ nowhere k = refl
     work-by _ there k = ap (λ (x : Frame). outOf x k) seal-same
 
-    decrypt-by : (b : Body) → Placed r b → (k : List ℕ) → decryptOf key c relay time b g k ≡ decryptOf key c relay time b f k
+    decrypt-by : (b : Body) → Placed r b → (k : List ℕ) → decryptOf key ev relay time b g k ≡ decryptOf key ev relay time b f k
     unfolding decryptOf
     decrypt-by _ nowhere k = refl
-    decrypt-by _ there k = ap (λ (x : Frame). openedBy (not c) x k) seal-same
+    decrypt-by _ there k = ap (λ (x : Frame). openedBy ev x k) seal-same
 
   decode-by : (ev : Bool) (b : Body) → Placed r b → (k : List ℕ) → decodeOf ev b g k ≡ decodeOf ev b f k
   unfolding decodeOf readSealed
@@ -83,11 +83,11 @@ module _ (f g : List ℕ) (r : Run) (long : length g ≡ length f) (same : runBy
       let a : Run = record { start = 0; len = length v } in
       either (ltb (length k) (length v)) (Refused outputShort) (openedAs InWork a (openingOf ev v)) m refl (held-by InWork a (eqb (openingOf ev v .kept) 0) m refl)
 
-  decrypted-by : (key : List ℕ) (c : Bool) (relay time : ℕ) (b : Body) → Placed r b → (k m : List ℕ)
-      → opened (decryptOf key c relay time b f k) g m ≡ opened (decryptOf key c relay time b f k) f m
+  decrypted-by : (key : List ℕ) (ev : Bool) (relay time : ℕ) (b : Body) → Placed r b → (k m : List ℕ)
+      → opened (decryptOf key ev relay time b f k) g m ≡ opened (decryptOf key ev relay time b f k) f m
   unfolding decryptOf payloadOf
-  decrypted-by key c relay time _ nowhere k m = refl
-  decrypted-by key c relay time _ there k m = in-work (not c) (sealWire key c relay time f r) k m
+  decrypted-by key ev relay time _ nowhere k m = refl
+  decrypted-by key ev relay time _ there k m = in-work ev (sealWire key ev relay time f r) k m
 
   decoded-by : (ev : Bool) (b : Body) → Placed r b → (k m : List ℕ) → opened (decodeOf ev b f k) g m ≡ opened (decodeOf ev b f k) f m
   unfolding decodeOf readSealed payloadOf
@@ -150,8 +150,8 @@ module _ (f g b : List ℕ) (long : length g ≡ length f) (same : runBytes g (r
   unfolding meshWork
   mesh-work-by key _ (uplink u l) k = refl
   mesh-work-by key _ (downlink u l) k = refl
-  mesh-work-by key _ (event u l h) k = work-by f g r long same key false (u .«relay_id») (u .timestamp) (u .events) h k
-  mesh-work-by key _ (command u l h) k = work-by f g r long same key true (u .«relay_id») (u .timestamp) (u .commands) h k
+  mesh-work-by key _ (event u l h) k = work-by f g r long same key true (u .«relay_id») (u .timestamp) (u .events) h k
+  mesh-work-by key _ (command u l h) k = work-by f g r long same key false (u .«relay_id») (u .timestamp) (u .commands) h k
 
   module _ (p q : MeshPacket) (payload : q .payload ≡ p .payload) (found : Lies b (p .payload)) where
     abbrev a : Payload
@@ -170,11 +170,11 @@ module _ (f g b : List ℕ) (long : length g ≡ length f) (same : runBytes g (r
     answer-by key _ (uplink u l) k = plain
     answer-by key _ (downlink u l) k = plain
     answer-by key _ (event u l h) k =
-        ap (λ (y : Opened). ofEventOpened q (eventOpened u y)) (decrypt-by f g r long same key false (u .«relay_id») (u .timestamp) (u .events) h k)
-        ∙ event-under p q u (decryptOf key false (u .«relay_id») (u .timestamp) (u .events) f k)
+        ap (λ (y : Opened). ofEventOpened q (eventOpened u y)) (decrypt-by f g r long same key true (u .«relay_id») (u .timestamp) (u .events) h k)
+        ∙ event-under p q u (decryptOf key true (u .«relay_id») (u .timestamp) (u .events) f k)
     answer-by key _ (command u l h) k =
-        ap (λ (y : Opened). ofCommandOpened q (commandOpened u y)) (decrypt-by f g r long same key true (u .«relay_id») (u .timestamp) (u .commands) h k)
-        ∙ command-under p q u (decryptOf key true (u .«relay_id») (u .timestamp) (u .commands) f k)
+        ap (λ (y : Opened). ofCommandOpened q (commandOpened u y)) (decrypt-by f g r long same key false (u .«relay_id») (u .timestamp) (u .commands) h k)
+        ∙ command-under p q u (decryptOf key false (u .«relay_id») (u .timestamp) (u .commands) f k)
 
     pub same-decrypted : (key k : List ℕ) → meshDecrypted key q (q .payload) g k ≡ openedUnder q (meshDecrypted key p a f k)
     same-decrypted key k = ap (λ (x : Payload). meshDecrypted key q x g k) payload ∙ answer-by key a found k
@@ -200,11 +200,11 @@ module _ (f g b : List ℕ) (long : length g ≡ length f) (same : runBytes g (r
     clear-by key _ (uplink u l) k m = bytes-by a found m
     clear-by key _ (downlink u l) k m = bytes-by a found m
     clear-by key _ (event u l h) k m =
-        let x = decryptOf key false (u .«relay_id») (u .timestamp) (u .events) f k in
-        event-bytes p u x g m ∙ decrypted-by f g r long same key false (u .«relay_id») (u .timestamp) (u .events) h k m ∙ sym (event-bytes p u x f m)
+        let x = decryptOf key true (u .«relay_id») (u .timestamp) (u .events) f k in
+        event-bytes p u x g m ∙ decrypted-by f g r long same key true (u .«relay_id») (u .timestamp) (u .events) h k m ∙ sym (event-bytes p u x f m)
     clear-by key _ (command u l h) k m =
-        let x = decryptOf key true (u .«relay_id») (u .timestamp) (u .commands) f k in
-        command-bytes p u x g m ∙ decrypted-by f g r long same key true (u .«relay_id») (u .timestamp) (u .commands) h k m ∙ sym (command-bytes p u x f m)
+        let x = decryptOf key false (u .«relay_id») (u .timestamp) (u .commands) f k in
+        command-bytes p u x g m ∙ decrypted-by f g r long same key false (u .«relay_id») (u .timestamp) (u .commands) h k m ∙ sym (command-bytes p u x f m)
 
     stand-by : (x : Payload) → Lies b x → (k : List ℕ) → ofOpened bytesIn (meshDecoded p x f k) g k ≡ ofOpened bytesIn (meshDecoded p x f k) f k
     unfolding meshDecoded

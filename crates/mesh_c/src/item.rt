@@ -1,5 +1,6 @@
 // Items one at a time, their counts, heartbeats, and the key stream.
 ghost use mathlib.Core.Path.{_≡_};
+ghost use mathlib.Core.Bool.{not};
 ghost use Rattle.base.specs.Answers.{answerOf, outOf, numberIn, leftBy, writtenSays};
 ghost use Rattle.heartbeats.specs.Heartbeat.{beatSays, beatOf, pathSays, entryRead, beatWire};
 ghost use Rattle.composed.specs.Composed.{paths};
@@ -33,8 +34,8 @@ pub extern "C" fn mesh_stream(
     payload: &[u8],
     out: &mut [u8],
 ) -> u8
-    ensures answer { λ r. ⌜ r ≡ numberIn (writtenSays (answerOf (sealedOf (now (key .entry)) «is_command» «relay_id» timestamp (now (payload .entry))) (now (out .entry)))) ⌝ }
-    ensures out { λ _. ⌜ now (out .exit) ≡ outOf (sealedOf (now (key .entry)) «is_command» «relay_id» timestamp (now (payload .entry))) (now (out .entry)) ⌝ }
+    ensures answer { λ r. ⌜ r ≡ numberIn (writtenSays (answerOf (sealedOf (now (key .entry)) (not «is_command») «relay_id» timestamp (now (payload .entry))) (now (out .entry)))) ⌝ }
+    ensures out { λ _. ⌜ now (out .exit) ≡ outOf (sealedOf (now (key .entry)) (not «is_command») «relay_id» timestamp (now (payload .entry))) (now (out .entry)) ⌝ }
 {
     match encrypt_events_commands(
         Aes128Key::from_bytes(*key),

@@ -4,7 +4,7 @@
 -- `requires`.) Assumes nothing.
 use Prim.Native.Nat.{ℕ, _≤_}
 use native.Mathlib.Omega.{arith}
-use mathlib.Core.Bool.{Bool, true, false, not, false≢true}
+use mathlib.Core.Bool.{Bool, true, false, false≢true}
 use mathlib.Core.Path.{_≡_, refl, sym, ap, _∙_}
 use mathlib.Core.List.{List, _++_}
 use lib.Dec.{ltb, eqb}
@@ -86,13 +86,13 @@ opened-by ev (bytes c) w n e = by (ltb (length w) (length c)) refl where
   by true q = simp q
   by false q = absurd (never _ n (simp q at e))
 
-pub refused-opening-changes-nothing : (key : List ℕ) (command : Bool) (relay time : ℕ) (b : Body) (f w : List ℕ) (n : ℕ)
-    → openedSays (decryptOf key command relay time b f w) ≡ number n → workAfter key command relay time b f w ≡ w
+pub refused-opening-changes-nothing : (key : List ℕ) (ev : Bool) (relay time : ℕ) (b : Body) (f w : List ℕ) (n : ℕ)
+    → openedSays (decryptOf key ev relay time b f w) ≡ number n → workAfter key ev relay time b f w ≡ w
 unfolding decryptOf workAfter
-refused-opening-changes-nothing key command relay time Empty f w n e = refl
-refused-opening-changes-nothing key command relay time (Sealed r) f w n e = opened-by (not command) (sealWire key command relay time f r) w n e
-refused-opening-changes-nothing key command relay time (Open h r) f w n e = refl
-refused-opening-changes-nothing key command relay time (Items k) f w n e = refl
+refused-opening-changes-nothing key ev relay time Empty f w n e = refl
+refused-opening-changes-nothing key ev relay time (Sealed r) f w n e = opened-by ev (sealWire key ev relay time f r) w n e
+refused-opening-changes-nothing key ev relay time (Open h r) f w n e = refl
+refused-opening-changes-nothing key ev relay time (Items k) f w n e = refl
 
 event-opened-by : (p : MeshPacket) (u : EventPayload) (o : Opened) (n : ℕ) → meshOpenedSays (ofEventOpened p (eventOpened u o)) ≡ number n → openedSays o ≡ number n
 event-opened-by p u (opened.Opened b k) n e = absurd (never _ n e)
@@ -111,9 +111,9 @@ unfolding meshDecrypted meshWork
 refused-packet-opening-changes-nothing key p (payload.Uplink u) f w n e = refl
 refused-packet-opening-changes-nothing key p (payload.Downlink u) f w n e = refl
 refused-packet-opening-changes-nothing key p (payload.Event u) f w n e =
-    refused-opening-changes-nothing key false (u .«relay_id») (u .timestamp) (u .events) f w n (event-opened-by p u (decryptOf key false (u .«relay_id») (u .timestamp) (u .events) f w) n e)
+    refused-opening-changes-nothing key true (u .«relay_id») (u .timestamp) (u .events) f w n (event-opened-by p u (decryptOf key true (u .«relay_id») (u .timestamp) (u .events) f w) n e)
 refused-packet-opening-changes-nothing key p (payload.Command u) f w n e =
-    refused-opening-changes-nothing key true (u .«relay_id») (u .timestamp) (u .commands) f w n (command-opened-by p u (decryptOf key true (u .«relay_id») (u .timestamp) (u .commands) f w) n e)
+    refused-opening-changes-nothing key false (u .«relay_id») (u .timestamp) (u .commands) f w n (command-opened-by p u (decryptOf key false (u .«relay_id») (u .timestamp) (u .commands) f w) n e)
 
 -- ---- a heartbeat's path, into the lent list of entries
 

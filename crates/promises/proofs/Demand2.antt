@@ -158,17 +158,17 @@ pub key-blocks : (E : List ℕ → List ℕ) (A : ℕ → List ℕ)
 key-blocks E A = (block-1 E A, block-256 E A, repeats E A)
 
 -- "Sealing twice gives the clear bytes, still marked sealed"
-pub sealed-twice : (key : List ℕ) (command : Bool) (relay time : ℕ) (s w : List ℕ) → sealedOf key command relay time s ≡ bytes w → sealedOf key command relay time w ≡ bytes s
+pub sealed-twice : (key : List ℕ) (ev : Bool) (relay time : ℕ) (s w : List ℕ) → sealedOf key ev relay time s ≡ bytes w → sealedOf key ev relay time w ≡ bytes s
 sealed-twice = seal-twice
 
 -- what is sealed opens to what was sealed, under the same key, in a work buffer k
 module _ (key : List ℕ) (l : Lent) (w rest : List ℕ) (x : Lists) (k : List ℕ) where
   pub event-sealed-then-opened : (u : EventPayload) → eventSeal key l u ≡ bytes w
-      → openedSays (decryptOf key false (u .«relay_id») (u .timestamp) (bodyOf 0 (length w)) (w ++ rest) k) ≡ openedSays (openedBy true (bytes (bodyBytes true l (u .events))) k)
+      → openedSays (decryptOf key true (u .«relay_id») (u .timestamp) (bodyOf 0 (length w)) (w ++ rest) k) ≡ openedSays (openedBy true (bytes (bodyBytes true l (u .events))) k)
   event-sealed-then-opened u e = ap openedSays (sealed.event-opened key l w rest x u k e)
 
   pub command-sealed-then-opened : (u : CommandPayload) → commandSeal key l u ≡ bytes w
-      → openedSays (decryptOf key true (u .«relay_id») (u .timestamp) (bodyOf 0 (length w)) (w ++ rest) k) ≡ openedSays (openedBy false (bytes (bodyBytes false l (u .commands))) k)
+      → openedSays (decryptOf key false (u .«relay_id») (u .timestamp) (bodyOf 0 (length w)) (w ++ rest) k) ≡ openedSays (openedBy false (bytes (bodyBytes false l (u .commands))) k)
   command-sealed-then-opened u e = ap openedSays (sealed.command-opened key l w rest x u k e)
 
 -- ---- items

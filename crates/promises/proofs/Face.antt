@@ -2,7 +2,7 @@
 -- accepts. Whatever other number it answers, 255 of `mesh_decode` too, every place that was lent to it is as before. Assumes nothing.
 use Prim.Native.Nat.{ℕ, _<_}
 use native.Mathlib.Omega.{arith}
-use mathlib.Core.Bool.{Bool, true, false, not}
+use mathlib.Core.Bool.{Bool, true, false}
 use mathlib.Core.Path.{_≡_, refl, sym, _∙_}
 use mathlib.Core.List.{List, _++_}
 use lib.Dec.{ltb, eqb}
@@ -101,13 +101,13 @@ opened-left ev (bytes c) w h = by (ltb (length w) (length c)) refl where
   by true q = simp q
   by false q = absurd (h (simp q))
 
-body-left : (key : List ℕ) (command : Bool) (relay time : ℕ) (b : Body) (f w : List ℕ)
-    → (openedNumber (openedSays (decryptOf key command relay time b f w)) ≡ 0 → ⊥) → workAfter key command relay time b f w ≡ w
+body-left : (key : List ℕ) (ev : Bool) (relay time : ℕ) (b : Body) (f w : List ℕ)
+    → (openedNumber (openedSays (decryptOf key ev relay time b f w)) ≡ 0 → ⊥) → workAfter key ev relay time b f w ≡ w
 unfolding decryptOf workAfter
-body-left key command relay time Empty f w h = refl
-body-left key command relay time (Sealed r) f w h = opened-left (not command) (sealWire key command relay time f r) w h
-body-left key command relay time (Open d r) f w h = refl
-body-left key command relay time (Items k) f w h = refl
+body-left key ev relay time Empty f w h = refl
+body-left key ev relay time (Sealed r) f w h = opened-left ev (sealWire key ev relay time f r) w h
+body-left key ev relay time (Open d r) f w h = refl
+body-left key ev relay time (Items k) f w h = refl
 
 event-number : (p : MeshPacket) (u : EventPayload) (o : Opened) → openedNumber (openedSays o) ≡ openedNumber (meshOpenedSays (ofEventOpened p (eventOpened u o)))
 event-number p u (opened.Opened b k) = refl
@@ -124,11 +124,11 @@ unfolding meshDecrypted meshWork
 packet-left key p (payload.Uplink u) f w h = refl
 packet-left key p (payload.Downlink u) f w h = refl
 packet-left key p (payload.Event u) f w h =
-    let o = decryptOf key false (u .«relay_id») (u .timestamp) (u .events) f w in
-    body-left key false (u .«relay_id») (u .timestamp) (u .events) f w (λ e. h (sym (event-number p u o) ∙ e))
+    let o = decryptOf key true (u .«relay_id») (u .timestamp) (u .events) f w in
+    body-left key true (u .«relay_id») (u .timestamp) (u .events) f w (λ e. h (sym (event-number p u o) ∙ e))
 packet-left key p (payload.Command u) f w h =
-    let o = decryptOf key true (u .«relay_id») (u .timestamp) (u .commands) f w in
-    body-left key true (u .«relay_id») (u .timestamp) (u .commands) f w (λ e. h (sym (command-number p u o) ∙ e))
+    let o = decryptOf key false (u .«relay_id») (u .timestamp) (u .commands) f w in
+    body-left key false (u .«relay_id») (u .timestamp) (u .commands) f w (λ e. h (sym (command-number p u o) ∙ e))
 
 work-left : (k : List ℕ) (f : Flat) (frame work : List ℕ) → (openedNumber (meshOpenedSays (flatDecrypted k f frame work)) ≡ 0 → ⊥) → flatWork k f frame work ≡ work
 unfolding flatDecrypted flatWork

@@ -2,7 +2,7 @@
 -- number that is 0 says that the call accepted. Assumes nothing.
 use Prim.Native.Nat.{ℕ, zero, suc, _+_, _-_, _*_, _/_, _%_, _<_}
 use native.Mathlib.Omega.{arith}
-use mathlib.Core.Bool.{Bool, true, false, not}
+use mathlib.Core.Bool.{Bool, true, false}
 use mathlib.Core.Path.{_≡_, refl, ap}
 use mathlib.Core.List.{List, [], _∷_}
 use lib.Dec.{ltb, leb, eqb}
@@ -252,9 +252,9 @@ path : (ps : List RelayPath) → Numbered (frameSays (beatWire ps))
 unfolding beatWire
 path ps = unless (firstOf badEntry ps) _ (picked frameSays (ltb pathMost (length ps)) _ _ (omega arith) tt)
 
-stream : (key : List ℕ) (command : Bool) (relay time : ℕ) (s : List ℕ) → Numbered (frameSays (sealedOf key command relay time s))
+stream : (key : List ℕ) (ev : Bool) (relay time : ℕ) (s : List ℕ) → Numbered (frameSays (sealedOf key ev relay time s))
 unfolding sealedOf
-stream key command relay time s = picked frameSays (ltb payloadMost (length s)) _ _ (omega arith) tt
+stream key ev relay time s = picked frameSays (ltb payloadMost (length s)) _ _ (omega arith) tt
 
 -- ---- bodies and frames read
 
@@ -401,11 +401,11 @@ packet-frame l (Lora r) = lora-frame (l .frame) r
 
 event-seal : (key : List ℕ) (l : Lent) (u : EventPayload) → Numbered (frameSays (eventSeal key l u))
 unfolding eventSeal bodySeal
-event-seal key l u = unless (bodyRefusal true l (u .events)) _ (stream key false (u .«relay_id») (u .timestamp) (bodyBytes true l (u .events)))
+event-seal key l u = unless (bodyRefusal true l (u .events)) _ (stream key true (u .«relay_id») (u .timestamp) (bodyBytes true l (u .events)))
 
 command-seal : (key : List ℕ) (l : Lent) (u : CommandPayload) → Numbered (frameSays (commandSeal key l u))
 unfolding commandSeal bodySeal
-command-seal key l u = unless (bodyRefusal false l (u .commands)) _ (stream key true (u .«relay_id») (u .timestamp) (bodyBytes false l (u .commands)))
+command-seal key l u = unless (bodyRefusal false l (u .commands)) _ (stream key false (u .«relay_id») (u .timestamp) (bodyBytes false l (u .commands)))
 
 event-sealed : (u : EventPayload) (w : Written) → Numbered (writtenSays w) → Numbered (eventSays (eventSealed u w))
 unfolding eventSealed
@@ -446,13 +446,13 @@ unfolding openedBy
 opened-work ev (bytes c) w s = picked openedSays (ltb (length w) (length c)) _ _ (omega arith) tt
 opened-work ev (refused n) w s = s
 
-decrypted : (key : List ℕ) (command : Bool) (relay time : ℕ) (b : Body) (f w : List ℕ) → Numbered (openedSays (decryptOf key command relay time b f w))
+decrypted : (key : List ℕ) (ev : Bool) (relay time : ℕ) (b : Body) (f w : List ℕ) → Numbered (openedSays (decryptOf key ev relay time b f w))
 unfolding decryptOf
-decrypted key command relay time Empty f w = tt
-decrypted key command relay time (Sealed r) f w =
-    opened-work (not command) (sealWire key command relay time f r) w (unless (runRefusal (length f) r) _ (stream key command relay time (runBytes f r)))
-decrypted key command relay time (Open h r) f w = not-again (openingOf (not command) (runBytes (heldIn h f w) r) .kept) (runRefusal (length (heldIn h f w)) r)
-decrypted key command relay time (Items n) f w = not-again n 0
+decrypted key ev relay time Empty f w = tt
+decrypted key ev relay time (Sealed r) f w =
+    opened-work ev (sealWire key ev relay time f r) w (unless (runRefusal (length f) r) _ (stream key ev relay time (runBytes f r)))
+decrypted key ev relay time (Open h r) f w = not-again (openingOf ev (runBytes (heldIn h f w) r) .kept) (runRefusal (length (heldIn h f w)) r)
+decrypted key ev relay time (Items n) f w = not-again n 0
 
 told-open : (kept outside : ℕ) → Numbered (openedSays (tellOpen kept outside))
 told-open kept outside = picked openedSays (eqb outside 0) _ _ (picked openedSays (eqb kept 0) _ _ tt tt) tt
@@ -489,11 +489,11 @@ unfolding meshDecrypted
 mesh-decrypted key p (Uplink u) f w = tt
 mesh-decrypted key p (Downlink u) f w = tt
 mesh-decrypted key p (Event u) f w =
-    let o = decryptOf key false (u .«relay_id») (u .timestamp) (u .events) f w in
-    of-event-opened p (eventOpened u o) (event-opened-by u o (decrypted key false (u .«relay_id») (u .timestamp) (u .events) f w))
+    let o = decryptOf key true (u .«relay_id») (u .timestamp) (u .events) f w in
+    of-event-opened p (eventOpened u o) (event-opened-by u o (decrypted key true (u .«relay_id») (u .timestamp) (u .events) f w))
 mesh-decrypted key p (Command u) f w =
-    let o = decryptOf key true (u .«relay_id») (u .timestamp) (u .commands) f w in
-    of-command-opened p (commandOpened u o) (command-opened-by u o (decrypted key true (u .«relay_id») (u .timestamp) (u .commands) f w))
+    let o = decryptOf key false (u .«relay_id») (u .timestamp) (u .commands) f w in
+    of-command-opened p (commandOpened u o) (command-opened-by u o (decrypted key false (u .«relay_id») (u .timestamp) (u .commands) f w))
 
 mesh-decoded : (p : MeshPacket) (q : Payload) (f w : List ℕ) → Numbered (meshOpenedSays (meshDecoded p q f w))
 unfolding meshDecoded
@@ -604,7 +604,7 @@ pub record NoZero : Type 0 where
   pub heartbeat-from-slice : (v : List ℕ) (places : ℕ) → Numbered (beatSays (beatOf v places))
   pub heartbeat-entry : (v : List ℕ) (i : ℕ) → Numbered (pathSays (entryRead v i))
   pub heartbeat-write : (ps : List RelayPath) (out : List ℕ) → Numbered (writtenSays (answerOf (beatWire ps) out))
-  pub encrypt-stream : (key : List ℕ) (command : Bool) (relay time : ℕ) (s out : List ℕ) → Numbered (writtenSays (answerOf (sealedOf key command relay time s) out))
+  pub encrypt-stream : (key : List ℕ) (ev : Bool) (relay time : ℕ) (s out : List ℕ) → Numbered (writtenSays (answerOf (sealedOf key ev relay time s) out))
   -- frames and bodies, read and written
   pub packet-from-slice : (s : List ℕ) → Numbered (packetSays (packetOf s))
   pub mesh-from-slice : (s : List ℕ) → Numbered (meshSays (meshOf s))
@@ -620,9 +620,9 @@ pub record NoZero : Type 0 where
   pub event-encrypt : (key : List ℕ) (l : Lent) (u : EventPayload) (out : List ℕ) → Numbered (eventSays (eventSealed u (answerOf (eventSeal key l u) out)))
   pub command-encrypt : (key : List ℕ) (l : Lent) (u : CommandPayload) (out : List ℕ) → Numbered (commandSays (commandSealed u (answerOf (commandSeal key l u) out)))
   pub mesh-decrypt : (key : List ℕ) (p : MeshPacket) (q : Payload) (f w : List ℕ) → Numbered (meshOpenedSays (meshDecrypted key p q f w))
-  pub event-decrypt : (key : List ℕ) (relay time : ℕ) (u : EventPayload) (f w : List ℕ) → Numbered (eventOpenedSays (eventOpened u (decryptOf key false relay time (u .events) f w)))
-  pub command-decrypt : (key : List ℕ) (relay time : ℕ) (u : CommandPayload) (f w : List ℕ) → Numbered (commandOpenedSays (commandOpened u (decryptOf key true relay time (u .commands) f w)))
-  pub body-decrypt : (key : List ℕ) (command : Bool) (relay time : ℕ) (b : Body) (f w : List ℕ) → Numbered (openedSays (decryptOf key command relay time b f w))
+  pub event-decrypt : (key : List ℕ) (relay time : ℕ) (u : EventPayload) (f w : List ℕ) → Numbered (eventOpenedSays (eventOpened u (decryptOf key true relay time (u .events) f w)))
+  pub command-decrypt : (key : List ℕ) (relay time : ℕ) (u : CommandPayload) (f w : List ℕ) → Numbered (commandOpenedSays (commandOpened u (decryptOf key false relay time (u .commands) f w)))
+  pub body-decrypt : (key : List ℕ) (ev : Bool) (relay time : ℕ) (b : Body) (f w : List ℕ) → Numbered (openedSays (decryptOf key ev relay time b f w))
   pub mesh-decode : (p : MeshPacket) (q : Payload) (f w : List ℕ) → Numbered (meshOpenedSays (meshDecoded p q f w))
   pub event-decode : (u : EventPayload) (f w : List ℕ) → Numbered (eventOpenedSays (eventOpened u (decodeOf true (u .events) f w)))
   pub command-decode : (u : CommandPayload) (f w : List ℕ) → Numbered (commandOpenedSays (commandOpened u (decodeOf false (u .commands) f w)))
@@ -661,7 +661,7 @@ no-refusal-is-0 =
       heartbeat-from-slice = heartbeat;
       heartbeat-entry = entry;
       heartbeat-write = λ ps out. writes (beatWire ps) out (path ps);
-      encrypt-stream = λ key command relay time s out. writes (sealedOf key command relay time s) out (stream key command relay time s);
+      encrypt-stream = λ key ev relay time s out. writes (sealedOf key ev relay time s) out (stream key ev relay time s);
       packet-from-slice = packet-read;
       mesh-from-slice = mesh-read;
       uplink-from-slice = uplink-read;
@@ -675,8 +675,8 @@ no-refusal-is-0 =
       event-encrypt = λ key l u out. event-sealed u (answerOf (eventSeal key l u) out) (writes (eventSeal key l u) out (event-seal key l u));
       command-encrypt = λ key l u out. command-sealed u (answerOf (commandSeal key l u) out) (writes (commandSeal key l u) out (command-seal key l u));
       mesh-decrypt = mesh-decrypted;
-      event-decrypt = λ key relay time u f w. event-opened-by u (decryptOf key false relay time (u .events) f w) (decrypted key false relay time (u .events) f w);
-      command-decrypt = λ key relay time u f w. command-opened-by u (decryptOf key true relay time (u .commands) f w) (decrypted key true relay time (u .commands) f w);
+      event-decrypt = λ key relay time u f w. event-opened-by u (decryptOf key true relay time (u .events) f w) (decrypted key true relay time (u .events) f w);
+      command-decrypt = λ key relay time u f w. command-opened-by u (decryptOf key false relay time (u .commands) f w) (decrypted key false relay time (u .commands) f w);
       body-decrypt = decrypted;
       mesh-decode = mesh-decoded;
       event-decode = λ u f w. event-opened-by u (decodeOf true (u .events) f w) (decoded true (u .events) f w);

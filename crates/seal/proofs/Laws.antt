@@ -93,49 +93,49 @@ _▸_ {a} {s} h b = record { bytes-of = by } where
   by zero = h
   by (suc i) = b .bytes-of i
 
-kind-lt : (command : Bool) → pick command 1 0 < 256
+kind-lt : (ev : Bool) → pick ev 0 1 < 256
 kind-lt true = lit< tt
 kind-lt false = lit< tt
 
-pub numbered-block : (command : Bool) (relay time n : ℕ) → n < 256 → Block (numbered command relay time n)
+pub numbered-block : (ev : Bool) (relay time n : ℕ) → n < 256 → Block (numbered ev relay time n)
 unfolding numbered beBytes
-numbered-block command relay time n h =
+numbered-block ev relay time n h =
     let z : 0 < 256 = lit< tt in
     let o : 1 < 256 = lit< tt in
     let r = be-small 4 relay in
     let t = be-small 4 time in
     let c : getD (numberBytes n) 0 0 < 256 = omega arith in
     let d : getD (numberBytes n) 1 0 < 256 = omega arith in
-    let a = o ▸ z ▸ z ▸ z ▸ z ▸ kind-lt command ▸ r 0 ▸ r 1 ▸ r 2 ▸ r 3 ▸ t 0 ▸ t 1 ▸ t 2 ▸ t 3 ▸ c ▸ d ▸ none in
+    let a = o ▸ z ▸ z ▸ z ▸ z ▸ kind-lt ev ▸ r 0 ▸ r 1 ▸ r 2 ▸ r 3 ▸ t 0 ▸ t 1 ▸ t 2 ▸ t 3 ▸ c ▸ d ▸ none in
     record { long = refl; small = a .bytes-of }
 
 -- under a key of 16 bytes
-module _ (key : List ℕ) (k : Block key) (command : Bool) (relay time : ℕ) where
-  pub prepared-stream : (s : List ℕ) → streamed (enciphered (prepared key)) (numbered command relay time) s ≡ streamed (aes key) (numbered command relay time) s
-  prepared-stream = stream-same (enciphered (prepared key)) (aes key) (prepared-agrees key k) (numbered command relay time) (numbered-block command relay time)
+module _ (key : List ℕ) (k : Block key) (ev : Bool) (relay time : ℕ) where
+  pub prepared-stream : (s : List ℕ) → streamed (enciphered (prepared key)) (numbered ev relay time) s ≡ streamed (aes key) (numbered ev relay time) s
+  prepared-stream = stream-same (enciphered (prepared key)) (aes key) (prepared-agrees key k) (numbered ev relay time) (numbered-block ev relay time)
 
-  pub sealed-bytes : (s : List ℕ) → Bytes s → Bytes (streamed (aes key) (numbered command relay time) s)
-  sealed-bytes = streamed-bytes (aes key) (numbered command relay time) (λ n h. aes-block key (k .small) (numbered command relay time n) (numbered-block command relay time n h .small) .small)
+  pub sealed-bytes : (s : List ℕ) → Bytes s → Bytes (streamed (aes key) (numbered ev relay time) s)
+  sealed-bytes = streamed-bytes (aes key) (numbered ev relay time) (λ n h. aes-block key (k .small) (numbered ev relay time n) (numbered-block ev relay time n h .small) .small)
 
 -- a payload sealed
-module _ (key : List ℕ) (command : Bool) (relay time : ℕ) where
-  pub seal-long : (s : List ℕ) → payloadMost < length s → sealedOf key command relay time s ≡ refused frameLong
+module _ (key : List ℕ) (ev : Bool) (relay time : ℕ) where
+  pub seal-long : (s : List ℕ) → payloadMost < length s → sealedOf key ev relay time s ≡ refused frameLong
   unfolding sealedOf
   seal-long s h = simp (lt-ltb payloadMost (length s) h)
 
-  pub seal-fits : (s : List ℕ) → length s ≤ payloadMost → sealedOf key command relay time s ≡ bytes (streamed (aes key) (numbered command relay time) s)
+  pub seal-fits : (s : List ℕ) → length s ≤ payloadMost → sealedOf key ev relay time s ≡ bytes (streamed (aes key) (numbered ev relay time) s)
   unfolding sealedOf
   seal-fits s h = simp (le-ltb payloadMost (length s) h)
 
   -- what was sealed opens, and what was opened seals
-  pub seal-twice : (s w : List ℕ) → sealedOf key command relay time s ≡ bytes w → sealedOf key command relay time w ≡ bytes s
+  pub seal-twice : (s w : List ℕ) → sealedOf key ev relay time s ≡ bytes w → sealedOf key ev relay time w ≡ bytes s
   unfolding sealedOf
   seal-twice s w p = by (ltb payloadMost (length s)) refl p where
-    by : (t : Bool) → ltb payloadMost (length s) ≡ t → pick t (refused frameLong) (bytes (streamed (aes key) (numbered command relay time) s)) ≡ bytes w
-        → sealedOf key command relay time w ≡ bytes s
+    by : (t : Bool) → ltb payloadMost (length s) ≡ t → pick t (refused frameLong) (bytes (streamed (aes key) (numbered ev relay time) s)) ≡ bytes w
+        → sealedOf key ev relay time w ≡ bytes s
     by true e q = absurd (let z : _≡_ {A = ℕ} 0 1 = cc in omega arith)
     by false e q =
-        let v : streamed (aes key) (numbered command relay time) s ≡ w = cc in
-        let n : length w ≡ length s = ap length (sym v) ∙ streamed-length (aes key) (numbered command relay time) s in
+        let v : streamed (aes key) (numbered ev relay time) s ≡ w = cc in
+        let n : length w ≡ length s = ap length (sym v) ∙ streamed-length (aes key) (numbered ev relay time) s in
         let h : length s ≤ payloadMost = ltb-false _ _ e in
-        seal-fits w (omega arith) ∙ ap bytes (rw v at (sealed-twice (aes key) (numbered command relay time) s))
+        seal-fits w (omega arith) ∙ ap bytes (rw v at (sealed-twice (aes key) (numbered ev relay time) s))

@@ -101,29 +101,29 @@ module _ (E : List ℕ → List ℕ) (A : ℕ → List ℕ) where
       laying-done o 0 (streamed E A o) (omega arith) buf at (omega arith) (a .laying) ∙ put-whole o (streamed E A o) long
 
 -- sealing s into o
-module _ (key : List ℕ) (command : Bool) (relay time : ℕ) (s o : List ℕ) where
-  pub too-long : payloadMost < length s → (Refused frameLong ≡ answerOf (sealedOf key command relay time s) o) × (o ≡ outOf (sealedOf key command relay time s) o)
+module _ (key : List ℕ) (ev : Bool) (relay time : ℕ) (s o : List ℕ) where
+  pub too-long : payloadMost < length s → (Refused frameLong ≡ answerOf (sealedOf key ev relay time s) o) × (o ≡ outOf (sealedOf key ev relay time s) o)
   unfolding answerOf outOf
-  too-long h = (rw (seal-long key command relay time s h), rw (seal-long key command relay time s h))
+  too-long h = (rw (seal-long key ev relay time s h), rw (seal-long key ev relay time s h))
 
   pub too-short : length s ≤ payloadMost → length o < length s
-      → (Refused outputShort ≡ answerOf (sealedOf key command relay time s) o) × (o ≡ outOf (sealedOf key command relay time s) o)
+      → (Refused outputShort ≡ answerOf (sealedOf key ev relay time s) o) × (o ≡ outOf (sealedOf key ev relay time s) o)
   too-short h g =
-      let n : length (streamed (aes key) (numbered command relay time) s) ≡ length s = streamed-length (aes key) (numbered command relay time) s in
-      let p = no-room (streamed (aes key) (numbered command relay time) s) o (omega arith) in
-      rw (seal-fits key command relay time s h) (sym (p .0), sym (p .1))
+      let n : length (streamed (aes key) (numbered ev relay time) s) ≡ length s = streamed-length (aes key) (numbered ev relay time) s in
+      let p = no-room (streamed (aes key) (numbered ev relay time) s) o (omega arith) in
+      rw (seal-fits key ev relay time s h) (sym (p .0), sym (p .1))
 
   -- l is the output with s copied to its front, and x the stream added to that front
   pub sealed-in : Block key → length s ≤ payloadMost → length s ≤ length o → {l x e : List ℕ} → l ≡ put o 0 s → e ≡ prepared key
-      → x ≡ streamed (enciphered e) (numbered command relay time) (take (length s) l)
-      → (Bytes (length s) ≡ answerOf (sealedOf key command relay time s) o) × (x ++ drop (length s) l ≡ outOf (sealedOf key command relay time s) o)
+      → x ≡ streamed (enciphered e) (numbered ev relay time) (take (length s) l)
+      → (Bytes (length s) ≡ answerOf (sealedOf key ev relay time s) o) × (x ++ drop (length s) l ≡ outOf (sealedOf key ev relay time s) o)
   sealed-in k h g {l} {x} {e} p q r =
-      let w = streamed (aes key) (numbered command relay time) s in
-      let n : length w ≡ length s = streamed-length (aes key) (numbered command relay time) s in
+      let w = streamed (aes key) (numbered ev relay time) s in
+      let n : length w ≡ length s = streamed-length (aes key) (numbered ev relay time) s in
       let a : l ≡ s ++ drop (length s) o = p ∙ put-front o s g ∙ room s o g .1 in
       let b : x ≡ w =
-      r ∙ ap₂ (λ (y z : List ℕ). streamed (enciphered y) (numbered command relay time) z) q (ap (take (length s)) a ∙ take-at s (drop (length s) o) (length s) refl)
-      ∙ prepared-stream key k command relay time s in
+      r ∙ ap₂ (λ (y z : List ℕ). streamed (enciphered y) (numbered ev relay time) z) q (ap (take (length s)) a ∙ take-at s (drop (length s) o) (length s) refl)
+      ∙ prepared-stream key k ev relay time s in
       let d : drop (length s) l ≡ drop (length s) o = ap (drop (length s)) a ∙ drop-at s (drop (length s) o) (length s) refl in
       let f = rw n at (room w o (omega arith)) in
-      rw (seal-fits key command relay time s h, b, d) (sym (f .0), sym (f .1))
+      rw (seal-fits key ev relay time s h, b, d) (sym (f .0), sym (f .1))

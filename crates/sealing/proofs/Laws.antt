@@ -2,7 +2,7 @@
 -- of the clear bytes. For every length, key and kind, and whatever else is lent. Assumes nothing.
 use Prim.Native.Nat.{ℕ, _+_}
 use native.Mathlib.Omega.{arith}
-use mathlib.Core.Bool.{Bool, true, false, not}
+use mathlib.Core.Bool.{Bool, true, false}
 use mathlib.Core.Path.{_≡_, refl, sym, ap, _∙_}
 use mathlib.Core.List.{List, [], _∷_, _++_}
 use lib.Dec.{eqb}
@@ -41,12 +41,8 @@ module _ (w rest : List ℕ) where
   front-bytes : runBytes (w ++ rest) front ≡ w
   front-bytes = part-front w rest
 
-twice-not : (b : Bool) → not (not b) ≡ b
-twice-not true = refl
-twice-not false = refl
-
 -- no bytes, sealed and opened, are nothing
-nothing-opened : (ev : Bool) (key : List ℕ) (relay time : ℕ) (k : List ℕ) → openedBy ev (sealedOf key (not ev) relay time []) k ≡ nothingIn
+nothing-opened : (ev : Bool) (key : List ℕ) (relay time : ℕ) (k : List ℕ) → openedBy ev (sealedOf key ev relay time []) k ≡ nothingIn
 unfolding openedBy sealedOf streamed openingOf
 nothing-opened ev key relay time k = simp (le-ltb (length k) 0 (omega arith), no-pieces ev)
 
@@ -55,30 +51,29 @@ none [] e = refl
 none (x ∷ w) e = absurd (omega arith)
 
 module _ (ev : Bool) (key : List ℕ) (relay time : ℕ) (l : Lent) (b : Body) (w : List ℕ) (sealed : bodySeal key ev relay time l b ≡ bytes w) where
-  unsealed : sealedOf key (not ev) relay time w ≡ bytes (bodyBytes ev l b)
+  unsealed : sealedOf key ev relay time w ≡ bytes (bodyBytes ev l b)
   unfolding bodySeal
   unsealed =
-      seal-twice key (not ev) relay time (bodyBytes ev l b) w
-      (unless-bytes (bodyRefusal ev l b) (sealedOf key (not ev) relay time (bodyBytes ev l b)) w sealed .1)
+      seal-twice key ev relay time (bodyBytes ev l b) w
+      (unless-bytes (bodyRefusal ev l b) (sealedOf key ev relay time (bodyBytes ev l b)) w sealed .1)
 
   -- as it lies at the front of the output, which is the frame from then on
   module _ (rest : List ℕ) where
     again-by : (x : Lists) (t : Bool) → eqb (length w) 0 ≡ t → bodySeal key ev relay time (framed (w ++ rest) x) (pick t Empty (Sealed (front w rest))) ≡ bytes (bodyBytes ev l b)
     unfolding bodySeal bodyRefusal bodyBytes
-    again-by x true e = ap (sealedOf key (not ev) relay time) (sym (none w (eqb-true _ _ e))) ∙ unsealed
+    again-by x true e = ap (sealedOf key ev relay time) (sym (none w (eqb-true _ _ e))) ∙ unsealed
     again-by x false e =
-        sym (not-refused (runRefusal (length (w ++ rest)) (front w rest)) (sealedOf key (not ev) relay time (runBytes (w ++ rest) (front w rest))) (front-inside w rest))
-        ∙ ap (sealedOf key (not ev) relay time) (front-bytes w rest) ∙ unsealed
+        sym (not-refused (runRefusal (length (w ++ rest)) (front w rest)) (sealedOf key ev relay time (runBytes (w ++ rest) (front w rest))) (front-inside w rest))
+        ∙ ap (sealedOf key ev relay time) (front-bytes w rest) ∙ unsealed
 
     opened-by : (k : List ℕ) (t : Bool) → eqb (length w) 0 ≡ t
-        → decryptOf key (not ev) relay time (pick t Empty (Sealed (front w rest))) (w ++ rest) k ≡ openedBy ev (bytes (bodyBytes ev l b)) k
+        → decryptOf key ev relay time (pick t Empty (Sealed (front w rest))) (w ++ rest) k ≡ openedBy ev (bytes (bodyBytes ev l b)) k
     unfolding decryptOf
-    opened-by k true e = sym (ap (λ (f : Frame). openedBy ev f k) (sym unsealed ∙ ap (sealedOf key (not ev) relay time) (none w (eqb-true _ _ e))) ∙ nothing-opened ev key relay time k)
+    opened-by k true e = sym (ap (λ (f : Frame). openedBy ev f k) (sym unsealed ∙ ap (sealedOf key ev relay time) (none w (eqb-true _ _ e))) ∙ nothing-opened ev key relay time k)
     opened-by k false e =
-        ap (λ (v : Bool). openedBy v (sealWire key (not ev) relay time (w ++ rest) (front w rest)) k) (twice-not ev)
-        ∙ ap (λ (f : Frame). openedBy ev f k)
-        (sym (not-refused (runRefusal (length (w ++ rest)) (front w rest)) (sealedOf key (not ev) relay time (runBytes (w ++ rest) (front w rest))) (front-inside w rest))
-        ∙ ap (sealedOf key (not ev) relay time) (front-bytes w rest) ∙ unsealed)
+        ap (λ (f : Frame). openedBy ev f k)
+        (sym (not-refused (runRefusal (length (w ++ rest)) (front w rest)) (sealedOf key ev relay time (runBytes (w ++ rest) (front w rest))) (front-inside w rest))
+        ∙ ap (sealedOf key ev relay time) (front-bytes w rest) ∙ unsealed)
 
 -- ---- events and commands
 
@@ -96,11 +91,11 @@ module _ (key : List ℕ) (l : Lent) (w rest : List ℕ) (x : Lists) where
 
   -- opened it has what the clear bytes have, with 21 where the work buffer k is too short for them
   pub event-opened : (u : EventPayload) (k : List ℕ) → eventSeal key l u ≡ bytes w
-      → decryptOf key false (u .«relay_id») (u .timestamp) (bodyOf 0 (length w)) (w ++ rest) k ≡ openedBy true (bytes (bodyBytes true l (u .events))) k
+      → decryptOf key true (u .«relay_id») (u .timestamp) (bodyOf 0 (length w)) (w ++ rest) k ≡ openedBy true (bytes (bodyBytes true l (u .events))) k
   unfolding eventSeal
   event-opened u k e = opened-by true key (u .«relay_id») (u .timestamp) l (u .events) w e rest k (eqb (length w) 0) refl
 
   pub command-opened : (u : CommandPayload) (k : List ℕ) → commandSeal key l u ≡ bytes w
-      → decryptOf key true (u .«relay_id») (u .timestamp) (bodyOf 0 (length w)) (w ++ rest) k ≡ openedBy false (bytes (bodyBytes false l (u .commands))) k
+      → decryptOf key false (u .«relay_id») (u .timestamp) (bodyOf 0 (length w)) (w ++ rest) k ≡ openedBy false (bytes (bodyBytes false l (u .commands))) k
   unfolding commandSeal
   command-opened u k e = opened-by false key (u .«relay_id») (u .timestamp) l (u .commands) w e rest k (eqb (length w) 0) refl

@@ -83,10 +83,17 @@ module _ (ev : Bool) (w : List ℕ) where
   unfolding openedBy outOf
   frame-refused f k e = rw (← e) (refl, refl)
 
--- the run lies inside: what is sealed is its bytes
-pub seal-is : (key : List ℕ) (command : Bool) (relay time : ℕ) (f : List ℕ) (r : Run) (k : ℕ) (v : List ℕ) → k ≡ runRefusal (length f) r → k ≡ 0 → v ≡ runBytes f r
-    → sealedOf key command relay time v ≡ sealWire key command relay time f r
-seal-is key command relay time f r k v e h q = ap (sealedOf key command relay time) q ∙ not-refused (runRefusal (length f) r) (sealedOf key command relay time (runBytes f r)) (sym e ∙ h)
+-- the run lies inside: what is sealed is its bytes. `encrypt_events_commands` asks whether it is a command
+twice-not : (b : Bool) → not (not b) ≡ b
+twice-not true = refl
+twice-not false = refl
+
+pub seal-is : (key : List ℕ) (ev : Bool) (relay time : ℕ) (f : List ℕ) (r : Run) (k : ℕ) (v : List ℕ) → k ≡ runRefusal (length f) r → k ≡ 0 → v ≡ runBytes f r
+    → sealedOf key (not (not ev)) relay time v ≡ sealWire key ev relay time f r
+seal-is key ev relay time f r k v e h q =
+    ap (λ (b : Bool). sealedOf key b relay time v) (twice-not ev)
+    ∙ ap (sealedOf key ev relay time) q
+    ∙ not-refused (runRefusal (length f) r) (sealedOf key ev relay time (runBytes f r)) (sym e ∙ h)
 
 -- ---- a body, written and with the stream added
 
@@ -95,7 +102,7 @@ module _ (key : List ℕ) (ev : Bool) (relay time : ℕ) (l : Lent) (b : Body) (
   clear = bodyBytes ev l b
 
   abbrev sealed : Frame
-  sealed = sealedOf key (not ev) relay time clear
+  sealed = sealedOf key ev relay time clear
 
   pub seal-refused : (k ≡ 0 → ⊥) → Outcome (NotWritten k) o (bodySeal key ev relay time l b) o
   unfolding bodySeal
@@ -108,17 +115,17 @@ module _ (key : List ℕ) (ev : Bool) (relay time : ℕ) (l : Lent) (b : Body) (
     as-body a x = same-frame _ sealed a x o (sym (not-refused (bodyRefusal ev l b) sealed (sym ek ∙ z)))
 
     pub seal-long : 8179 < n → Outcome (NotWritten frameLong) o (bodySeal key ev relay time l b) o
-    seal-long h = as-body (NotWritten frameLong) o (too-long key (not ev) relay time clear o (capped-large n _ en h))
+    seal-long h = as-body (NotWritten frameLong) o (too-long key ev relay time clear o (capped-large n _ en h))
 
     pub seal-short : n ≤ 8179 → length o < n → Outcome (NotWritten outputShort) o (bodySeal key ev relay time l b) o
     seal-short f h =
         let s : n ≡ length (bodyBytes ev l b) = capped-small n _ en f in
-        as-body (NotWritten outputShort) o (too-short key (not ev) relay time clear o (omega arith) (omega arith))
+        as-body (NotWritten outputShort) o (too-short key ev relay time clear o (omega arith) (omega arith))
 
     pub seal-done : Block key → n ≤ 8179 → n ≤ length o → {x y e : List ℕ} → x ≡ put o 0 (bodyBytes ev l b) → e ≡ prepared key
-        → y ≡ streamed (enciphered e) (numbered (not ev) relay time) (take n x) → Outcome (Bytes n) (y ++ drop n x) (bodySeal key ev relay time l b) o
+        → y ≡ streamed (enciphered e) (numbered ev relay time) (take n x) → Outcome (Bytes n) (y ++ drop n x) (bodySeal key ev relay time l b) o
     seal-done c f g {x} {y} {e} ex ee ey =
         let s : n ≡ length (bodyBytes ev l b) = capped-small n _ en f in
-        let i = sealed-in key (not ev) relay time clear o c (omega arith) (omega arith) {l = x} {x = y} {e = e} ex ee
-        (ey ∙ ap (λ (j : ℕ). streamed (enciphered e) (numbered (not ev) relay time) (take j x)) s) in
+        let i = sealed-in key ev relay time clear o c (omega arith) (omega arith) {l = x} {x = y} {e = e} ex ee
+        (ey ∙ ap (λ (j : ℕ). streamed (enciphered e) (numbered ev relay time) (take j x)) s) in
         rw s (as-body (Bytes (length (bodyBytes ev l b))) (y ++ drop (length (bodyBytes ev l b)) x) i)

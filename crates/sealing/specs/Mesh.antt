@@ -66,15 +66,15 @@ ofCommandOpened p (CommandNot n) = NotOpened n
 unfoldable pub meshDecrypted : List ℕ → MeshPacket → Payload → List ℕ → List ℕ → MeshOpened
 meshDecrypted key p (Uplink u) f w = nothingToOpen p
 meshDecrypted key p (Downlink u) f w = nothingToOpen p
-meshDecrypted key p (Event u) f w = ofEventOpened p (eventOpened u (decryptOf key false (u .«relay_id») (u .timestamp) (u .events) f w))
-meshDecrypted key p (Command u) f w = ofCommandOpened p (commandOpened u (decryptOf key true (u .«relay_id») (u .timestamp) (u .commands) f w))
+meshDecrypted key p (Event u) f w = ofEventOpened p (eventOpened u (decryptOf key true (u .«relay_id») (u .timestamp) (u .events) f w))
+meshDecrypted key p (Command u) f w = ofCommandOpened p (commandOpened u (decryptOf key false (u .«relay_id») (u .timestamp) (u .commands) f w))
 
 -- what the work buffer holds then
 unfoldable pub meshWork : List ℕ → Payload → List ℕ → List ℕ → List ℕ
 meshWork key (Uplink u) f w = w
 meshWork key (Downlink u) f w = w
-meshWork key (Event u) f w = workAfter key false (u .«relay_id») (u .timestamp) (u .events) f w
-meshWork key (Command u) f w = workAfter key true (u .«relay_id») (u .timestamp) (u .commands) f w
+meshWork key (Event u) f w = workAfter key true (u .«relay_id») (u .timestamp) (u .events) f w
+meshWork key (Command u) f w = workAfter key false (u .«relay_id») (u .timestamp) (u .commands) f w
 
 unfoldable pub meshDecoded : MeshPacket → Payload → List ℕ → List ℕ → MeshOpened
 meshDecoded p (Uplink u) f w = nothingToOpen p

@@ -1,7 +1,7 @@
 -- Opening a body: `decrypt`, which takes the key stream off into the work buffer, and `decode`, which reads the frame as it stands.
 -- Assumes nothing.
 use Prim.Native.Nat.{ℕ}
-use mathlib.Core.Bool.{Bool, not}
+use mathlib.Core.Bool.{Bool}
 use mathlib.Core.List.{List}
 use lib.Dec.{ltb, eqb}
 use lib.ListN.{length}
@@ -38,7 +38,7 @@ openRefusal k = pick (ltb 1 k) openMany (pick (eqb k 1) openOne 0)
 
 -- the clear bytes of a sealed run, or 45, 5
 abbrev pub sealWire : List ℕ → Bool → ℕ → ℕ → List ℕ → Run → Frame
-sealWire key command relay time f r = unlessRefused (runRefusal (length f) r) (sealedOf key command relay time (runBytes f r))
+sealWire key ev relay time f r = unlessRefused (runRefusal (length f) r) (sealedOf key ev relay time (runBytes f r))
 
 -- into the work buffer, or 21
 unfoldable pub openedBy : Bool → Frame → List ℕ → Opened
@@ -59,18 +59,18 @@ abbrev pub tellOpen : ℕ → ℕ → Opened
 tellOpen kept outside = pick (eqb outside 0) (pick (eqb kept 0) nothingIn AlreadyOpen) AlreadyOpen
 
 unfoldable pub decryptOf : List ℕ → Bool → ℕ → ℕ → Body → List ℕ → List ℕ → Opened
-decryptOf key command relay time Empty f w = nothingIn
-decryptOf key command relay time (Sealed r) f w = openedBy (not command) (sealWire key command relay time f r) w
-decryptOf key command relay time (Open h r) f w =
-    refuseOpen (openingOf (not command) (runBytes (heldIn h f w) r) .kept) (runRefusal (length (heldIn h f w)) r)
-decryptOf key command relay time (Items n) f w = refuseOpen n 0
+decryptOf key ev relay time Empty f w = nothingIn
+decryptOf key ev relay time (Sealed r) f w = openedBy ev (sealWire key ev relay time f r) w
+decryptOf key ev relay time (Open h r) f w =
+    refuseOpen (openingOf ev (runBytes (heldIn h f w) r) .kept) (runRefusal (length (heldIn h f w)) r)
+decryptOf key ev relay time (Items n) f w = refuseOpen n 0
 
 -- what the work buffer holds then
 unfoldable pub workAfter : List ℕ → Bool → ℕ → ℕ → Body → List ℕ → List ℕ → List ℕ
-workAfter key command relay time Empty f w = w
-workAfter key command relay time (Sealed r) f w = outOf (sealWire key command relay time f r) w
-workAfter key command relay time (Open h r) f w = w
-workAfter key command relay time (Items n) f w = w
+workAfter key ev relay time Empty f w = w
+workAfter key ev relay time (Sealed r) f w = outOf (sealWire key ev relay time f r) w
+workAfter key ev relay time (Open h r) f w = w
+workAfter key ev relay time (Items n) f w = w
 
 unfoldable pub decodeOf : Bool → Body → List ℕ → List ℕ → Opened
 decodeOf ev Empty f w = nothingIn

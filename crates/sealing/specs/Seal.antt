@@ -1,6 +1,6 @@
 -- Bodies, events and commands sealed, and events and commands opened. Assumes nothing.
 use Prim.Native.Nat.{ℕ}
-use mathlib.Core.Bool.{Bool, true, false, not}
+use mathlib.Core.Bool.{Bool, true, false}
 use mathlib.Core.List.{List}
 use Rattle.base.specs.Answers.{Frame, Answer, value, number, unlessRefused}
 use Rattle.base.specs.declared.Written.{Written}
@@ -25,7 +25,7 @@ use Rattle.sealing.specs.declared.command.CommandOpened.the-variants.{Op
 -- ---- sealing: what is written of the body, with the key stream added, or the first refusal: 29, 45, path entries, 19, 20, 5
 
 unfoldable pub bodySeal : List ℕ → Bool → ℕ → ℕ → Lent → Body → Frame
-bodySeal key ev relay time l b = unlessRefused (bodyRefusal ev l b) (sealedOf key (not ev) relay time (bodyBytes ev l b))
+bodySeal key ev relay time l b = unlessRefused (bodyRefusal ev l b) (sealedOf key ev relay time (bodyBytes ev l b))
 
 unfoldable pub eventSeal : List ℕ → Lent → EventPayload → Frame
 eventSeal key l p = bodySeal key true (p .«relay_id») (p .timestamp) l (p .events)

@@ -1,7 +1,6 @@
 // A body sealed: what is written of it, with the key stream added, at the front of the output. And opened: the clear bytes go into the lent
 // work buffer, or are read in the frame as it stands, and are counted.
 ghost use mathlib.Core.Path.{_≡_};
-ghost use mathlib.Core.Bool.{not};
 ghost use Rattle.base.specs.Answers.{answerOf, outOf};
 ghost use Rattle.bodies.specs.Body.{lent};
 ghost use Rattle.sealing.specs.Open.{openRefusal, nothingIn, openedAs, openedBy, sealWire, readSealed, refuseOpen, tellOpen, decryptOf, workAfter, decodeOf};
@@ -72,24 +71,24 @@ impl Opened {
 fn open_sealed(
     run: Run,
     key: Aes128Key,
-    is_command: bool,
+    is_event: bool,
     relay_id: u32,
     timestamp: u32,
     frame: &[u8],
     work: &mut [u8],
 ) -> Opened
-    ensures answer { λ r. ⌜ r ≡ openedBy (not «is_command») (sealWire (key .0) «is_command» «relay_id» timestamp (now (frame .entry)) run) (now (work .entry)) ⌝ }
-    ensures work { λ _. ⌜ now (work .exit) ≡ outOf (sealWire (key .0) «is_command» «relay_id» timestamp (now (frame .entry)) run) (now (work .entry)) ⌝ }
+    ensures answer { λ r. ⌜ r ≡ openedBy «is_event» (sealWire (key .0) «is_event» «relay_id» timestamp (now (frame .entry)) run) (now (work .entry)) ⌝ }
+    ensures work { λ _. ⌜ now (work .exit) ≡ outOf (sealWire (key .0) «is_event» «relay_id» timestamp (now (frame .entry)) run) (now (work .entry)) ⌝ }
 {
     let bad = run.refusal(frame.len());
     if bad != 0 {
         return Opened::Refused(bad);
     }
-    match encrypt_events_commands(key, is_command, relay_id, timestamp, run.bytes(frame), work) {
+    match encrypt_events_commands(key, !is_event, relay_id, timestamp, run.bytes(frame), work) {
         Written::Refused(n) => Opened::Refused(n),
         Written::Bytes(n) => {
             let run = Run { start: 0, len: n };
-            Opened::by(Held::Work, run, count_items(run.bytes(work), !is_command))
+            Opened::by(Held::Work, run, count_items(run.bytes(work), is_event))
         }
     }
 }
@@ -139,21 +138,21 @@ fn tell_open(kept: usize, outside: u8) -> Opened
 pub fn decrypt(
     body: Body,
     key: Aes128Key,
-    is_command: bool,
+    is_event: bool,
     relay_id: u32,
     timestamp: u32,
     frame: &[u8],
     work: &mut [u8],
 ) -> Opened
-    ensures answer { λ r. ⌜ r ≡ decryptOf (key .0) «is_command» «relay_id» timestamp body (now (frame .entry)) (now (work .entry)) ⌝ }
-    ensures work { λ _. ⌜ now (work .exit) ≡ workAfter (key .0) «is_command» «relay_id» timestamp body (now (frame .entry)) (now (work .entry)) ⌝ }
+    ensures answer { λ r. ⌜ r ≡ decryptOf (key .0) «is_event» «relay_id» timestamp body (now (frame .entry)) (now (work .entry)) ⌝ }
+    ensures work { λ _. ⌜ now (work .exit) ≡ workAfter (key .0) «is_event» «relay_id» timestamp body (now (frame .entry)) (now (work .entry)) ⌝ }
 {
     match body {
         Body::Empty => Opened::none(),
-        Body::Sealed(run) => open_sealed(run, key, is_command, relay_id, timestamp, frame, work),
+        Body::Sealed(run) => open_sealed(run, key, is_event, relay_id, timestamp, frame, work),
         Body::Open { held, run } => {
             let s = held_in(held, frame, work);
-            let told = count_items(run.bytes(s), !is_command);
+            let told = count_items(run.bytes(s), is_event);
             refuse_open(told.kept, run.refusal(s.len()))
         }
         Body::Items(n) => refuse_open(n, 0),
@@ -219,6 +218,6 @@ pub(crate) fn encrypt<'a>(
         0,
     );
     let e = prepare(key);
-    add_stream(&e, !is_event, relay_id, timestamp, &mut out[..n]);
+    add_stream(&e, is_event, relay_id, timestamp, &mut out[..n]);
     Written::Bytes(n)
 }

@@ -89,8 +89,8 @@ pub fn decrypt(
     frame: &[u8],
     work: &mut [u8],
 ) -> CommandOpened
-    ensures answer { λ r. ⌜ r ≡ commandOpened payload (decryptOf (key .0) Bool.true (payload .«relay_id») (payload .timestamp) (payload .commands) (now (frame .entry)) (now (work .entry))) ⌝ }
-    ensures work { λ _. ⌜ now (work .exit) ≡ workAfter (key .0) Bool.true (payload .«relay_id») (payload .timestamp) (payload .commands) (now (frame .entry)) (now (work .entry)) ⌝ }
+    ensures answer { λ r. ⌜ r ≡ commandOpened payload (decryptOf (key .0) Bool.false (payload .«relay_id») (payload .timestamp) (payload .commands) (now (frame .entry)) (now (work .entry))) ⌝ }
+    ensures work { λ _. ⌜ now (work .exit) ≡ workAfter (key .0) Bool.false (payload .«relay_id») (payload .timestamp) (payload .commands) (now (frame .entry)) (now (work .entry)) ⌝ }
 {
     let commands = payload.commands;
     opened(
@@ -98,7 +98,7 @@ pub fn decrypt(
         body::decrypt(
             commands,
             key,
-            true,
+            false,
             payload.relay_id,
             payload.timestamp,
             frame,

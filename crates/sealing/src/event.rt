@@ -84,8 +84,8 @@ fn opened(payload: EventPayload, o: Opened) -> EventOpened
 
 // The clear bytes go into the work buffer: 22, 23, 45, 5, 21.
 pub fn decrypt(payload: EventPayload, key: Aes128Key, frame: &[u8], work: &mut [u8]) -> EventOpened
-    ensures answer { λ r. ⌜ r ≡ eventOpened payload (decryptOf (key .0) Bool.false (payload .«relay_id») (payload .timestamp) (payload .events) (now (frame .entry)) (now (work .entry))) ⌝ }
-    ensures work { λ _. ⌜ now (work .exit) ≡ workAfter (key .0) Bool.false (payload .«relay_id») (payload .timestamp) (payload .events) (now (frame .entry)) (now (work .entry)) ⌝ }
+    ensures answer { λ r. ⌜ r ≡ eventOpened payload (decryptOf (key .0) Bool.true (payload .«relay_id») (payload .timestamp) (payload .events) (now (frame .entry)) (now (work .entry))) ⌝ }
+    ensures work { λ _. ⌜ now (work .exit) ≡ workAfter (key .0) Bool.true (payload .«relay_id») (payload .timestamp) (payload .events) (now (frame .entry)) (now (work .entry)) ⌝ }
 {
     let events = payload.events;
     opened(
@@ -93,7 +93,7 @@ pub fn decrypt(payload: EventPayload, key: Aes128Key, frame: &[u8], work: &mut [
         body::decrypt(
             events,
             key,
-            false,
+            true,
             payload.relay_id,
             payload.timestamp,
             frame,

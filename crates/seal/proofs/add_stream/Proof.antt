@@ -12,10 +12,10 @@ use Rattle.seal.proofs.add_stream.Statement.{statement}
 use Rattle.seal.proofs.add_stream.Tie as tie
 
 abbrev Inv-loop : tie.InvT-loop
-Inv-loop e is-command relay-id timestamp buf₀ n₀ at₀ buf n at = Adding (enciphered e) (numbered is-command relay-id timestamp) buf₀ buf n at
+Inv-loop e is-event relay-id timestamp buf₀ n₀ at₀ buf n at = Adding (enciphered e) (numbered is-event relay-id timestamp) buf₀ buf n at
 
 abbrev μ-loop : tie.MeasureT-loop
-μ-loop e is-command relay-id timestamp buf₀ n₀ at₀ buf n at = length buf₀ - at
+μ-loop e is-event relay-id timestamp buf₀ n₀ at₀ buf n at = length buf₀ - at
 
 loop-holds : tie.Need-loop-holds Inv-loop μ-loop
 loop-holds c = adding-none _ _ _

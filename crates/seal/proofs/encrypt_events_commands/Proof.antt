@@ -8,6 +8,7 @@ use Rattle.wire.proofs.Laws.Lay.{put-length}
 use Rattle.seal.proofs.Turns.{too-long, too-short, sealed-in}
 use borrow.Author.Needs.{needs}
 use native.Mathlib.Omega.{arith}
+use mathlib.Core.Bool.{not}
 use mathlib.Core.Path.{_≡_, sym, ap, _∙_}
 use denote.Ref.{now}
 use Rattle.seal.proofs.encrypt_events_commands.Statement.{statement}
@@ -15,11 +16,11 @@ use Rattle.seal.proofs.encrypt_events_commands.Tie as tie
 
 returns : tie.Need-returns
 returns c = let a = c .before .before .before .args in
-    too-long (a .key .0) (a .is-command) (a .relay-id) (a .timestamp) (now (a .payload)) (now (a .out)) (c .if1 .taken)
+    too-long (a .key .0) (not (a .is-command)) (a .relay-id) (a .timestamp) (now (a .payload)) (now (a .out)) (c .if1 .taken)
 
 returns-2 : tie.Need-returns-2
 returns-2 c = let a = c .before .before .before .before .args in
-    too-short (a .key .0) (a .is-command) (a .relay-id) (a .timestamp) (now (a .payload)) (now (a .out)) (omega arith) (c .if2 .taken)
+    too-short (a .key .0) (not (a .is-command)) (a .relay-id) (a .timestamp) (now (a .payload)) (now (a .out)) (omega arith) (c .if2 .taken)
 
 slice-aggregate-add-stream : tie.Need-slice-aggregate-add-stream
 slice-aggregate-add-stream c = let b = c .before .before .before .before .before in
@@ -38,7 +39,7 @@ returns-3 c = let b = c .before .before in
     let n : length k ≡ 16 = search needs in
     let f : (i : ℕ) → Fits w8 (getD k i 0) = λ i. search needs in
     let h : length (now (a .payload)) ≤ length (now (a .out)) = omega arith in
-    sealed-in k (a .is-command) (a .relay-id) (a .timestamp) (now (a .payload)) (now (a .out)) (record { long = n; small = λ i. f i .fits })
+    sealed-in k (not (a .is-command)) (a .relay-id) (a .timestamp) (now (a .payload)) (now (a .out)) (record { long = n; small = λ i. f i .fits })
     (omega arith) h (g .put-all .ensures) (d .prepare .ensures) (b .add-stream .ensures)
 
 pub encrypt-events-commands-spec : {M : Type 1} → statement M

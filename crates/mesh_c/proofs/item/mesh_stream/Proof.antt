@@ -1,5 +1,6 @@
 -- `mesh_c::item::mesh_stream` meets its contract. Assumes nothing.
 use lib.ListN.{length}
+use mathlib.Core.Bool.{not}
 use mathlib.Core.Path.{sym, ap, _∙_}
 use denote.Ref.{now}
 use Rattle.base.specs.Answers.{answerOf, outOf, numberIn, writtenSays}
@@ -18,8 +19,8 @@ returns : tie.Need-returns
 returns c = let a = c .before .before .before .before .before .before .before .before .before .before .args in
     let w = c .before .before .before .before .encrypt-events-commands .ensures in
     let e = c .before .before .before .before .before .before .from-bytes .ensures in (
-      ap (λ (r : Written). numberIn (writtenSays r)) (sym (c .enum-told .given .1) ∙ w .0 ∙ ap (λ (k : Aes128Key). answerOf (sealedOf (k .0) (a .is-command) (a .relay-id) (a .timestamp) (now (a .payload))) (now (a .out))) e),
-      w .1 ∙ ap (λ (k : Aes128Key). outOf (sealedOf (k .0) (a .is-command) (a .relay-id) (a .timestamp) (now (a .payload))) (now (a .out))) e,
+      ap (λ (r : Written). numberIn (writtenSays r)) (sym (c .enum-told .given .1) ∙ w .0 ∙ ap (λ (k : Aes128Key). answerOf (sealedOf (k .0) (not (a .is-command)) (a .relay-id) (a .timestamp) (now (a .payload))) (now (a .out))) e),
+      w .1 ∙ ap (λ (k : Aes128Key). outOf (sealedOf (k .0) (not (a .is-command)) (a .relay-id) (a .timestamp) (now (a .payload))) (now (a .out))) e,
     )
 
 same-length-2 : tie.Need-same-length-2
@@ -29,8 +30,8 @@ returns-2 : tie.Need-returns-2
 returns-2 c = let a = c .before .before .before .before .before .before .before .before .before .before .before .args in
     let w = c .before .before .before .before .before .encrypt-events-commands .ensures in
     let e = c .before .before .before .before .before .before .before .from-bytes .ensures in (
-      ap (λ (r : Written). numberIn (writtenSays r)) (sym (c .before .n .given .1) ∙ w .0 ∙ ap (λ (k : Aes128Key). answerOf (sealedOf (k .0) (a .is-command) (a .relay-id) (a .timestamp) (now (a .payload))) (now (a .out))) e),
-      w .1 ∙ ap (λ (k : Aes128Key). outOf (sealedOf (k .0) (a .is-command) (a .relay-id) (a .timestamp) (now (a .payload))) (now (a .out))) e,
+      ap (λ (r : Written). numberIn (writtenSays r)) (sym (c .before .n .given .1) ∙ w .0 ∙ ap (λ (k : Aes128Key). answerOf (sealedOf (k .0) (not (a .is-command)) (a .relay-id) (a .timestamp) (now (a .payload))) (now (a .out))) e),
+      w .1 ∙ ap (λ (k : Aes128Key). outOf (sealedOf (k .0) (not (a .is-command)) (a .relay-id) (a .timestamp) (now (a .payload))) (now (a .out))) e,
     )
 
 pub mesh-stream-spec : {M : Type 1} → statement M

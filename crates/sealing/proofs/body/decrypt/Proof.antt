@@ -1,7 +1,6 @@
 -- `sealing::body::decrypt` meets its contract. Assumes nothing.
 use mathlib.Core.Path.{refl, ap, ap₂, _∙_}
 use mathlib.Core.List.{List}
-use mathlib.Core.Bool.{not}
 use Prim.Native.Nat.{ℕ}
 use lib.ListN.{length}
 use Rattle.base.proofs.Answers.{out-length}
@@ -31,7 +30,7 @@ returns-3 c = let r = c .before .before .before .before .before .before .before 
     rw (c .before .before .before .before .before .before .before .body2 .given .1) (
       c .refuse-open .ensures
           ∙ ap₂ refuseOpen
-          (ap (λ (o : Opening). o .kept) (c .before .before .count-items .ensures ∙ ap (openingOf (not (c .before .before .before .before .before .before .before .before .before .before .before .args .is-command))) (c .before .before .before .bytes .ensures ∙ ap (λ (s : List ℕ). runBytes s r) h)))
+          (ap (λ (o : Opening). o .kept) (c .before .before .count-items .ensures ∙ ap (openingOf (c .before .before .before .before .before .before .before .before .before .before .before .args .is-event)) (c .before .before .before .bytes .ensures ∙ ap (λ (s : List ℕ). runBytes s r) h)))
           (c .before .refusal .ensures ∙ ap (λ (s : List ℕ). runRefusal (length s) r) h),
       refl,
     )
