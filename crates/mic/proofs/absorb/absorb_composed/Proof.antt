@@ -1,4 +1,4 @@
--- `absorbed::absorb_composed` meets its contract. Assumes nothing.
+-- `mic::absorb::absorb_composed` meets its contract. Assumes nothing.
 use Prim.Native.Nat.{_-_}
 use mir.Val.{Fits}
 use mir.Syntax.{w8}
@@ -10,11 +10,11 @@ use Rattle.base.specs.Lists.{joined}
 use Rattle.cipher.specs.Words.{enciphered}
 use Rattle.composed.specs.Composed.{lists, itemsIn, itemWire, composedBytes}
 use Rattle.composed.proofs.Loops.{ahead, same-wire, none-left}
-use Rattle.absorbed.proofs.Steps.{Whole, whole-more, whole-none}
-use Rattle.absorbed.proofs.Bytes.{item-lt}
+use Rattle.mic.proofs.Absorbing.{Whole, whole-more, whole-none}
+use Rattle.mic.proofs.Bytes.{item-lt}
 use borrow.Author.Needs.{needs}
-use Rattle.absorbed.proofs.absorb_composed.Statement.{statement}
-use Rattle.absorbed.proofs.absorb_composed.Tie as tie
+use Rattle.mic.proofs.absorb.absorb_composed.Statement.{statement}
+use Rattle.mic.proofs.absorb.absorb_composed.Tie as tie
 
 abbrev Inv-loop : tie.InvT-loop
 Inv-loop e is-event count kinds spans ids rssis snrs src n a₀ i₀ a i =

@@ -1,4 +1,4 @@
--- `absorbed::absorb_body` meets its contract. Assumes nothing.
+-- `mic::absorb::absorb_body` meets its contract. Assumes nothing.
 use Prim.Native.Nat.{ℕ}
 use mathlib.Core.Path.{refl, ap, _∙_}
 use mathlib.Core.List.{List, foldl}
@@ -9,10 +9,10 @@ use Rattle.cipher.specs.Words.{enciphered}
 use Rattle.cmac.specs.State.{absorb1}
 use Rattle.kept.specs.Kept.{openBytes}
 use Rattle.bodies.specs.Body.{bodyBytes}
-use Rattle.absorbed.proofs.Bytes.{part-lt, open-lt}
+use Rattle.mic.proofs.Bytes.{part-lt, open-lt}
 use borrow.Author.Needs.{needs}
-use Rattle.absorbed.proofs.absorb_body.Statement.{statement}
-use Rattle.absorbed.proofs.absorb_body.Tie as tie
+use Rattle.mic.proofs.absorb.absorb_body.Statement.{statement}
+use Rattle.mic.proofs.absorb.absorb_body.Tie as tie
 
 returns : tie.Need-returns
 unfolding bodyBytes

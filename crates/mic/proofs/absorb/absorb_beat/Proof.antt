@@ -1,4 +1,4 @@
--- `absorbed::absorb_beat` meets its contract. Assumes nothing.
+-- `mic::absorb::absorb_beat` meets its contract. Assumes nothing.
 use Prim.Native.Nat.{_-_, _+_, _≤_, _<_}
 use native.Mathlib.Omega.{arith}
 use mathlib.Core.Bool.{true}
@@ -9,10 +9,10 @@ use Rattle.base.specs.Lists.{imap}
 use Rattle.cipher.specs.Words.{enciphered}
 use Rattle.cmac.proofs.Turns.{rest-is}
 use Rattle.kept.specs.Kept.{fixed}
-use Rattle.absorbed.proofs.Steps.{Left, left-more, left-last, sixFrom, entry-ahead, left-over}
+use Rattle.mic.proofs.Absorbing.{Left, left-more, left-last, sixFrom, entry-ahead, left-over}
 use borrow.Author.Needs.{needs}
-use Rattle.absorbed.proofs.absorb_beat.Statement.{statement}
-use Rattle.absorbed.proofs.absorb_beat.Tie as tie
+use Rattle.mic.proofs.absorb.absorb_beat.Statement.{statement}
+use Rattle.mic.proofs.absorb.absorb_beat.Tie as tie
 
 abbrev Inv-loop : tie.InvT-loop
 Inv-loop e value a₀ i₀ a i = (i ≤ length value) × Left (enciphered e) a₀ (imap (fixed true) 0 value) a (imap (fixed true) 0 (drop i value))

@@ -1,14 +1,14 @@
--- `absorbed::absorb_item` meets its contract. Assumes nothing.
+-- `mic::absorb::absorb_item` meets its contract. Assumes nothing.
 use mathlib.Core.Bool.{Bool}
 use mathlib.Core.Path.{ap, sym, _∙_}
 use denote.Ref.{now}
 use Rattle.base.specs.Lists.{imap}
 use Rattle.kept.specs.Kept.{fixed}
 use Rattle.kept.proofs.Laws.{fixed-plain}
-use Rattle.absorbed.proofs.Steps.{item-more}
+use Rattle.mic.proofs.Absorbing.{item-more}
 use borrow.Author.Needs.{needs}
-use Rattle.absorbed.proofs.absorb_item.Statement.{statement}
-use Rattle.absorbed.proofs.absorb_item.Tie as tie
+use Rattle.mic.proofs.absorb.absorb_item.Statement.{statement}
+use Rattle.mic.proofs.absorb.absorb_item.Tie as tie
 
 returns : tie.Need-returns
 returns c = let v = now (c .before .before .before .before .before .before .args .value) in

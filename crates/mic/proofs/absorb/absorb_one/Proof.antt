@@ -1,9 +1,9 @@
--- `absorbed::absorb_one` meets its contract. Assumes nothing.
+-- `mic::absorb::absorb_one` meets its contract. Assumes nothing.
 use mathlib.Core.Path.{ap, sym, _∙_}
 use mathlib.Core.List.{foldl}
 use Rattle.composed.proofs.Runs.{path-wire, value-wire}
-use Rattle.absorbed.proofs.absorb_one.Statement.{statement}
-use Rattle.absorbed.proofs.absorb_one.Tie as tie
+use Rattle.mic.proofs.absorb.absorb_one.Statement.{statement}
+use Rattle.mic.proofs.absorb.absorb_one.Tie as tie
 
 returns : tie.Need-returns
 returns c = c .absorb-path .ensures ∙ ap (foldl _ _) (sym (path-wire _ _ _ (sym (c .before .before .is-path .ensures) ∙ c .before .if1 .taken)))

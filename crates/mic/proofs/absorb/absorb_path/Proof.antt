@@ -1,4 +1,4 @@
--- `absorbed::absorb_path` meets its contract. Assumes nothing.
+-- `mic::absorb::absorb_path` meets its contract. Assumes nothing.
 use Prim.Native.Nat.{ℕ, _-_, _%_}
 use native.Mathlib.Omega.{arith}
 use mathlib.Core.Path.{refl, ap, sym, _∙_}
@@ -11,10 +11,10 @@ use Rattle.fields.specs.Path.{sixOf}
 use Rattle.composed.specs.Composed.{paths, pathRun}
 use Rattle.composed.proofs.Runs.{held-le}
 use Rattle.composed.proofs.Loops.{entry-in, six-ahead, six-none, path-bytes}
-use Rattle.absorbed.proofs.Steps.{Left, left-more, left-none, headed-more}
+use Rattle.mic.proofs.Absorbing.{Left, left-more, left-none, headed-more}
 use borrow.Author.Needs.{needs}
-use Rattle.absorbed.proofs.absorb_path.Statement.{statement}
-use Rattle.absorbed.proofs.absorb_path.Tie as tie
+use Rattle.mic.proofs.absorb.absorb_path.Statement.{statement}
+use Rattle.mic.proofs.absorb.absorb_path.Tie as tie
 
 abbrev Inv-loop : tie.InvT-loop
 Inv-loop e place len ids rssis snrs n a₀ start i₀ a i =

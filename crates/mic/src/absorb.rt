@@ -50,7 +50,7 @@ fn absorb_beat(m: Mac, e: &Cipher, value: &[u8]) -> Mac
 }
 
 // One item: its two head bytes, then its value.
-pub fn absorb_item(m: Mac, e: &Cipher, beat: bool, tag: u8, value: &[u8]) -> Mac
+fn absorb_item(m: Mac, e: &Cipher, beat: bool, tag: u8, value: &[u8]) -> Mac
     ensures { λ r. ⌜ r ≡ foldl (absorb1 (enciphered (now (e .entry)))) m (itemBytes beat tag (now (value .entry))) ⌝ }
 {
     let head = [tag, low_byte(value.len())];
@@ -62,7 +62,7 @@ pub fn absorb_item(m: Mac, e: &Cipher, beat: bool, tag: u8, value: &[u8]) -> Mac
 }
 
 // The kept items of an open payload.
-pub fn absorb_kept(m: Mac, e: &Cipher, is_event: bool, payload: &[u8]) -> Mac
+fn absorb_kept(m: Mac, e: &Cipher, is_event: bool, payload: &[u8]) -> Mac
     ensures { λ r. ⌜ r ≡ foldl (absorb1 (enciphered (now (e .entry)))) m (openBytes «is_event» (now (payload .entry))) ⌝ }
 {
     let mut a = m;
@@ -140,7 +140,7 @@ fn absorb_one(
 }
 
 // All of them. That they are bytes is told here, as nothing else tells it of the tags in a slice of arrays.
-pub fn absorb_composed(
+fn absorb_composed(
     m: Mac,
     e: &Cipher,
     is_event: bool,
@@ -168,7 +168,7 @@ pub fn absorb_composed(
 }
 
 // A body's payload: a sealed run as it lies, open or composed items one after another.
-pub fn absorb_body<'a>(
+pub(crate) fn absorb_body<'a>(
     m: Mac,
     e: &Cipher,
     body: Body,

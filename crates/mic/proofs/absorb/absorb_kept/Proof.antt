@@ -1,4 +1,4 @@
--- `absorbed::absorb_kept` meets its contract. Assumes nothing.
+-- `mic::absorb::absorb_kept` meets its contract. Assumes nothing.
 use Prim.Native.Nat.{_-_}
 use native.Mathlib.Omega.{arith}
 use mathlib.Core.Path.{refl, sym, _∙_}
@@ -8,10 +8,10 @@ use Rattle.items.specs.Items.{pieces}
 use Rattle.items.proofs.Laws.{turn}
 use Rattle.kept.specs.Kept.{itemBytes, keptWire, openBytes}
 use Rattle.kept.proofs.Loop.{kept-ahead, skipped-ahead, cut-ahead, end-ahead}
-use Rattle.absorbed.proofs.Steps.{Left, left-more, left-same, left-none}
+use Rattle.mic.proofs.Absorbing.{Left, left-more, left-same, left-none}
 use borrow.Author.Needs.{needs}
-use Rattle.absorbed.proofs.absorb_kept.Statement.{statement}
-use Rattle.absorbed.proofs.absorb_kept.Tie as tie
+use Rattle.mic.proofs.absorb.absorb_kept.Statement.{statement}
+use Rattle.mic.proofs.absorb.absorb_kept.Tie as tie
 
 abbrev Inv-loop : tie.InvT-loop
 Inv-loop e is-event payload a₀ p₀ a p = Left (enciphered e) a₀ (openBytes is-event payload) a (keptWire is-event (pieces is-event 0 (drop p payload)))
