@@ -1,10 +1,11 @@
 -- What is left to absorb gives the same: the one invariant of the loops, and its steps; a head and its value; a heartbeat's entries.
 -- Assumes nothing.
-use Prim.Native.Nat.{ℕ, suc, _+_, _%_, _<_, _≤_}
+use Prim.Native.Nat.{ℕ, suc, _+_, _*_, _/_, _%_, _<_, _≤_}
 use native.Mathlib.Omega.{arith}
 use mathlib.Core.Bool.{Bool, true}
 use mathlib.Core.Path.{_≡_, refl, sym, ap, subst, _∙_}
 use mathlib.Core.List.{List, [], _∷_, _++_, foldl, foldl-append}
+use lib.Arith.{digits-mod}
 use lib.ListN.{length, getD, drop}
 use lib.Seq.{drop-cons}
 use Rattle.base.specs.Lists.{Bytes, imap}
@@ -55,6 +56,14 @@ module _ (E : List ℕ → List ℕ) (m a : Mac) (t n : ℕ) (q : a ≡ foldl (a
   unfolding itemBytes
   item-more beat v w e z u =
       headed-more (imap (fixed beat) 0 v) (e ∙ ap (λ (k : ℕ). k % 256) (sym (imap-length (fixed beat) 0 v))) (z ∙ ap (foldl (absorb1 E) a) u)
+
+-- the length byte of n entries, by the low byte of n alone
+pub low-six : (n : ℕ) → 6 * (n % 256) % 256 ≡ 6 * n % 256
+low-six n =
+    let q : ℕ = 6 * (n / 256) + 6 * (n % 256) / 256 in
+    let e : 6 * n ≡ q * 256 + 6 * (n % 256) % 256 = omega arith in
+    let r : 6 * (n % 256) % 256 < 256 = omega arith in
+    sym (ap (λ (x : ℕ). x % 256) e ∙ digits-mod q r)
 
 -- ---- a heartbeat's entries
 

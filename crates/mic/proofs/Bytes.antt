@@ -22,9 +22,10 @@ use Rattle.fields.specs.declared.signal.SignalByte.{SignalByte}
 use Rattle.fields.specs.declared.signal.SignalByte.the-variants.{Byte, Refused as NoByte}
 use Rattle.fields.specs.declared.path.RelayPath.{RelayPath}
 use Rattle.fields.proofs.Laws.Signal.{rssi-byte-lt, snr-byte-lt}
+use Rattle.heartbeats.specs.Paths.{PathLists, pathAt, pathRun, pathCount}
 use Rattle.items.specs.Items.{isBeat, badBeat, kept, skipped, cut, pieces}
 use Rattle.kept.specs.Kept.{headed, fixed, itemBytes, keptWire, openBytes}
-use Rattle.composed.specs.Composed.{Lists, pathAt, pathRun, pathCount, isPath, valueOf, itemWire}
+use Rattle.composed.specs.Composed.{Lists, isPath, valueOf, itemWire}
 use Rattle.composed.specs.declared.Composed.{Composed}
 use Rattle.bodies.specs.Body.{heldIn}
 use Rattle.bodies.specs.declared.body.Held.{Held}
@@ -87,7 +88,7 @@ unfolding joined
 joined-lt f zero i g h = none-lt
 joined-lt f (suc n) i g h = append-lt (f (g i)) (joined f (from n (suc i) g)) (h i) (joined-lt f n (suc i) g h)
 
-path-lt : (l : Lists) (place n : ℕ) → Bytes (joined sixOf (pathRun l place n))
+path-lt : (l : PathLists) (place n : ℕ) → Bytes (joined sixOf (pathRun l place n))
 unfolding pathRun joined
 path-lt l place n = by (eqb (runRefusal (pathCount l) (record { start = place; len = n })) 0) where
   by : (t : Bool) → Bytes (joined sixOf (pick t (from n place (pathAt l)) []))
@@ -98,8 +99,8 @@ pub item-lt : (ev : Bool) (l : Lists) (it : Composed) → Bytes (l .src) → it 
 unfolding itemWire valueOf
 item-lt ev l it src t = by (isPath ev it) where
   by : (b : Bool)
-      → Bytes (headed (pick b 0 (it .tag)) (pick b (joined sixOf (pathRun l (it .place) (it .len))) (imap (fixed (isBeat ev (it .tag))) 0 (partOf (l .src) (it .place) (it .len)))))
-  by true = headed-lt 0 (joined sixOf (pathRun l (it .place) (it .len))) (omega arith) (path-lt l (it .place) (it .len))
+      → Bytes (headed (pick b 0 (it .tag)) (pick b (joined sixOf (pathRun (l .entries) (it .place) (it .len))) (imap (fixed (isBeat ev (it .tag))) 0 (partOf (l .src) (it .place) (it .len)))))
+  by true = headed-lt 0 (joined sixOf (pathRun (l .entries) (it .place) (it .len))) (omega arith) (path-lt (l .entries) (it .place) (it .len))
   by false =
       headed-lt (it .tag) (imap (fixed (isBeat ev (it .tag))) 0 (partOf (l .src) (it .place) (it .len))) t
       (value-lt (isBeat ev (it .tag)) 0 (partOf (l .src) (it .place) (it .len)) (part-lt (l .src) (it .place) (it .len) src))

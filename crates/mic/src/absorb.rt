@@ -7,7 +7,8 @@ ghost use Rattle.cipher.specs.Words.{enciphered};
 ghost use Rattle.cmac.specs.State.{absorb1};
 ghost use Rattle.fields.specs.Path.{sixOf};
 ghost use Rattle.kept.specs.Kept.{headed, fixed, itemBytes, openBytes};
-ghost use Rattle.composed.specs.Composed.{lists, paths, pathRun, itemWire, composedBytes};
+ghost use Rattle.heartbeats.specs.Paths.{paths, pathRun};
+ghost use Rattle.composed.specs.Composed.{lists, itemWire, composedBytes};
 ghost use Rattle.bodies.specs.Body.{lent, bodyBytes};
 use base::Limit;
 use bodies::Body;
@@ -15,17 +16,18 @@ use bodies::held_in;
 use cipher::Cipher;
 use cmac::Mac;
 use composed::Composed;
-use composed::entry;
-use composed::held;
 use composed::is_path;
 use composed::item_at;
 use composed::item_count;
-use composed::path_count;
 use composed::run_of;
+use heartbeats::entry;
+use heartbeats::held;
+use heartbeats::path_count;
 use items::ItemRead;
 use items::next_item;
 use kept::is_beat;
 use kept::low_byte;
+use wire::Run;
 
 // A heartbeat's value, an entry at a time; less than an entry is left over as it is.
 fn absorb_beat(m: Mac, e: &Cipher, value: &[u8]) -> Mac
@@ -90,19 +92,18 @@ fn absorb_kept(m: Mac, e: &Cipher, is_event: bool, payload: &[u8]) -> Mac
 fn absorb_path(
     m: Mac,
     e: &Cipher,
-    place: u32,
-    len: u32,
+    start: usize,
+    len: usize,
     ids: &[u32],
     rssis: &[i16],
     snrs: &[i8],
 ) -> Mac
-    ensures { λ r. ⌜ r ≡ foldl (absorb1 (enciphered (now (e .entry)))) m (headed 0 (joined sixOf (pathRun (paths (now (ids .entry)) (now (rssis .entry)) (now (snrs .entry))) place len))) ⌝ }
+    ensures { λ r. ⌜ r ≡ foldl (absorb1 (enciphered (now (e .entry)))) m (headed 0 (joined sixOf (pathRun (paths (now (ids .entry)) (now (rssis .entry)) (now (snrs .entry))) start len))) ⌝ }
 {
-    let n = held(path_count(ids, rssis, snrs), place, len);
-    let head = [0u8, low_byte(Limit::ENTRY * n)];
+    let n = held(path_count(ids, rssis, snrs), Run { start, len });
+    // the same low byte, and a product that cannot be too large
+    let head = [0u8, low_byte(Limit::ENTRY * (n % 256))];
     let mut a = m.absorb(e, &head);
-    let run = run_of(place, len);
-    let start = run.start;
     let mut i: usize = 0;
     while i < n {
         let made = entry(start + i, ids, rssis, snrs);
@@ -127,16 +128,11 @@ fn absorb_one(
 ) -> Mac
     ensures { λ r. ⌜ r ≡ foldl (absorb1 (enciphered (now (e .entry)))) m (itemWire «is_event» (lists [] [] (now (ids .entry)) (now (rssis .entry)) (now (snrs .entry)) (now (src .entry))) it) ⌝ }
 {
+    let run = run_of(it.place, it.len);
     if is_path(is_event, it.kind) {
-        return absorb_path(m, e, it.place, it.len, ids, rssis, snrs);
+        return absorb_path(m, e, run.start, run.len, ids, rssis, snrs);
     }
-    absorb_item(
-        m,
-        e,
-        is_beat(is_event, it.tag),
-        it.tag,
-        run_of(it.place, it.len).bytes(src),
-    )
+    absorb_item(m, e, is_beat(is_event, it.tag), it.tag, run.bytes(src))
 }
 
 // All of them. That they are bytes is told here, as nothing else tells it of the tags in a slice of arrays.

@@ -1,10 +1,10 @@
--- `composed::id_at` meets its contract. Assumes nothing.
+-- `heartbeats::path::id_at` meets its contract. Assumes nothing.
 use lib.ListN.{List·getD-eq-default}
 use mathlib.Core.Path.{sym}
 use denote.Ref.{now}
 use borrow.Author.Needs.{needs}
-use Rattle.composed.proofs.id_at.Statement.{statement}
-use Rattle.composed.proofs.id_at.Tie as tie
+use Rattle.heartbeats.proofs.path.id_at.Statement.{statement}
+use Rattle.heartbeats.proofs.path.id_at.Tie as tie
 
 returns-2 : tie.Need-returns-2
 returns-2 c = sym (List·getD-eq-default (now (c .before .args .ids)) 0 (c .if1 .left))

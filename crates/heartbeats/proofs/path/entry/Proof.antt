@@ -1,8 +1,8 @@
--- `composed::entry` meets its contract. Assumes nothing.
+-- `heartbeats::path::entry` meets its contract. Assumes nothing.
 use mir.Facts.{toZ-ofZ}
 use mir.Syntax.{w8, w16}
-use Rattle.composed.proofs.entry.Statement.{statement}
-use Rattle.composed.proofs.entry.Tie as tie
+use Rattle.heartbeats.proofs.path.entry.Statement.{statement}
+use Rattle.heartbeats.proofs.path.entry.Tie as tie
 
 returns : tie.Need-returns
 returns c =
