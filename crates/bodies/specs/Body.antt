@@ -9,6 +9,7 @@ use Rattle.base.specs.Pick.{pick}
 use Rattle.base.specs.Answers.{Frame, bytes, unlessRefused}
 use Rattle.wire.specs.Run.{runRefusal, runBytes}
 use Rattle.kept.specs.Kept.{openBytes}
+use Rattle.heartbeats.specs.Paths.{paths}
 use Rattle.composed.specs.Composed.{Lists, kindsRefusal, verdictOf, composedBytes}
 use Rattle.bodies.specs.declared.body.Held.{Held}
 use Rattle.bodies.specs.declared.body.Held.the-variants.{Frame as InFrame, Work as InWork}
@@ -42,7 +43,7 @@ abbrev pub work : Lent → List ℕ
 work l = l .lists .src
 
 abbrev pub lent : List ℕ → List ℕ → List (List ℕ) → List (List ℕ) → List ℕ → List ℤ → List ℤ → Lent
-lent f w kinds spans ids rssis snrs = record { frame = f; lists = record { kinds = kinds; spans = spans; ids = ids; rssis = rssis; snrs = snrs; src = w } }
+lent f w kinds spans ids rssis snrs = record { frame = f; lists = record { kinds = kinds; spans = spans; entries = paths ids rssis snrs; src = w } }
 
 -- a frame, and whatever else is lent with it
 abbrev pub framed : List ℕ → Lists → Lent

@@ -16,6 +16,7 @@ use Rattle.wire.specs.Part.{reachNumber, partOf}
 use Rattle.wire.specs.Run.{runRefusal}
 use Rattle.wire.proofs.Laws.Part.{inside}
 use Rattle.wire.specs.declared.run.Run.{Run}
+use Rattle.heartbeats.specs.Paths.{paths}
 use Rattle.items.specs.Items.{isBeat, badBeat, kindOf, kindCode, itemOf, itemAt, nextOf, keptBefore, listedBy, listedItems, pieces}
 use Rattle.items.specs.declared.item.Item.{Item}
 use Rattle.items.specs.declared.item.ItemKind.the-variants.{Heartbeat, Proprietary}
@@ -50,7 +51,7 @@ module _ (ev : Bool) (s : List ℕ) where
   L = listedItems ev s
 
   abbrev l : Lists
-  l = record { kinds = map kindAndTag L; spans = map placeAndLength L; ids = []; rssis = []; snrs = []; src = s }
+  l = record { kinds = map kindAndTag L; spans = map placeAndLength L; entries = paths [] [] []; src = s }
 
   the-item : (d : Item) (i : ℕ) → i < length L → itemIn l i ≡ again (getD L i d)
   the-item d i h = rw (at-map kindAndTag L i d [] h, at-map placeAndLength L i d [] h)

@@ -12,8 +12,9 @@ use Rattle.base.specs.Numbers.{itemLong, heartbeatLength, outside, itemMost, pa
 use Rattle.wire.specs.Run.{runRefusal, runAt}
 use Rattle.wire.specs.declared.run.Run.{Run}
 use Rattle.fields.specs.Path.{badEntry}
+use Rattle.heartbeats.specs.Paths.{pathRun}
 use Rattle.items.specs.Items.{badBeat}
-use Rattle.composed.specs.Composed.{Lists, paths, pathRun, isPath, itemCount, itemsIn, outsideOf, badPath, longOf, unevenOf, kindsRefusal, verdictOf}
+use Rattle.composed.specs.Composed.{Lists, isPath, itemCount, itemsIn, outsideOf, badPath, longOf, unevenOf, kindsRefusal, verdictOf}
 use Rattle.composed.specs.inner.Passes.{capped, reachFor, faultOf, totalOf}
 use Rattle.composed.specs.declared.Composed.{Composed}
 use Rattle.composed.specs.declared.Total.the-variants.{Sum, Over}
@@ -27,10 +28,10 @@ module _ (ev : Bool) (l : Lists) (it : Composed) (pass : ℕ) (b : Bool) (eb : b
   place-fault p k r run ek er q = rw (eq-eqb pass 0 p) (q ∙ ap₂ runRefusal (ek ∙ ap (λ (x : Bool). reachFor x l) eb) er)
 
   module _ (p0 : pass ≡ 0 → ⊥) where
-    pub path-fault : pass ≡ 1 → b ≡ true → (r : ℕ) → r ≡ firstOf badEntry (pathRun (paths (l .ids) (l .rssis) (l .snrs)) (it .place) (it .len))
+    pub path-fault : pass ≡ 1 → b ≡ true → (r start len : ℕ) → start ≡ it .place → len ≡ it .len → r ≡ firstOf badEntry (pathRun (l .entries) start len)
         → r ≡ faultOf pass ev l it
-    unfolding faultOf badPath pathRun
-    path-fault p t r q = rw (ne-eqb pass 0 p0, eq-eqb pass 1 p, sym eb ∙ t) q
+    unfolding faultOf badPath
+    path-fault p t r start len es en q = rw (ne-eqb pass 0 p0, eq-eqb pass 1 p, sym eb ∙ t, ← es, ← en) q
 
     pub no-path : pass ≡ 1 → b ≡ false → 0 ≡ faultOf pass ev l it
     unfolding faultOf badPath

@@ -5,12 +5,6 @@ use Prim.Native.Nat.{ℕ}
 use Rattle.base.proofs.Outcome.{Fixed}
 use Rattle.composed.proofs.run_of.Kinds as run-of-kinds
 use Rattle.composed.proofs.run_of.Reads as run-of-reads
-use Rattle.composed.proofs.held.Kinds as held-kinds
-use Rattle.composed.proofs.held.Reads as held-reads
-use Rattle.composed.proofs.path_count.Kinds as path-count-kinds
-use Rattle.composed.proofs.path_count.Reads as path-count-reads
-use Rattle.composed.proofs.entry.Kinds as entry-kinds
-use Rattle.composed.proofs.entry.Reads as entry-reads
 use Rattle.composed.proofs.item_count.Kinds as item-count-kinds
 use Rattle.composed.proofs.item_count.Reads as item-count-reads
 use Rattle.composed.proofs.item_at.Kinds as item-at-kinds
@@ -28,15 +22,6 @@ use Rattle.composed.proofs.put_composed.Reads as put-composed-reads
 
 run-of : Fixed 0 run-of-kinds.ps run-of-kinds.r run-of-reads.Post
 run-of κs a x y v w p q = (p ∙ sym q, refl)
-
-held : Fixed 0 held-kinds.ps held-kinds.r held-reads.Post
-held κs a x y v w p q = (p ∙ sym q, refl)
-
-path-count : Fixed 3 path-count-kinds.ps path-count-kinds.r path-count-reads.Post
-path-count κs a x y v w p q = (p ∙ sym q, refl)
-
-entry : Fixed 3 entry-kinds.ps entry-kinds.r entry-reads.Post
-entry κs a x y v w p q = (p ∙ sym q, refl)
 
 item-count : Fixed 2 item-count-kinds.ps item-count-kinds.r item-count-reads.Post
 item-count κs a x y v w p q = (p ∙ sym q, refl)

@@ -15,12 +15,14 @@ use Rattle.base.proofs.Lists.{from-length, from-get, imap-length, or-zero}
 use Rattle.base.proofs.First.{passed}
 use Rattle.wire.specs.Part.{partOf}
 use Rattle.fields.specs.Path.{sixOf}
+use Rattle.heartbeats.specs.Paths.{pathCount, pathRun}
+use Rattle.heartbeats.proofs.Runs.{held-le, path-length}
 use Rattle.items.specs.Items.{isBeat}
 use Rattle.kept.specs.Kept.{fixed}
-use Rattle.composed.specs.Composed.{Lists, lists, pathCount, pathRun, itemCount, itemIn, itemsIn, isPath, badKind, outsideOf, badPath, longOf, unevenOf, kindsRefusal, verdictOf, valueOf, composedBytes}
+use Rattle.composed.specs.Composed.{Lists, lists, itemCount, itemIn, itemsIn, isPath, badKind, outsideOf, badPath, longOf, unevenOf, kindsRefusal, verdictOf, valueOf, composedBytes}
 use Rattle.composed.specs.inner.Passes.{capped}
 use Rattle.composed.specs.declared.Composed.{Composed}
-use Rattle.composed.proofs.Runs.{held-le, part-length, path-length}
+use Rattle.composed.proofs.Runs.{part-length}
 
 -- ---- no items
 
@@ -123,11 +125,11 @@ module _ (ev : Bool) (l : Lists) (n : ℕ) (e : verdictOf ev l n ≡ 0) where
 -- what is not too long has a value of at most 255 bytes, so that its length byte is its length
 module _ (ev : Bool) (l : Lists) (it : Composed) where
   short : (t : Bool) → pick (ltb (pick t pathMost itemMost) (it .len)) itemLong 0 ≡ 0
-      → length (pick t (joined sixOf (pathRun l (it .place) (it .len))) (imap (fixed (isBeat ev (it .tag))) 0 (partOf (l .src) (it .place) (it .len)))) ≤ 255
+      → length (pick t (joined sixOf (pathRun (l .entries) (it .place) (it .len))) (imap (fixed (isBeat ev (it .tag))) 0 (partOf (l .src) (it .place) (it .len)))) ≤ 255
   short true e =
       let h : it .len ≤ 42 = ltb-false 42 (it .len) (passed (ltb 42 (it .len)) 18 0 e .0) in
-      let a = path-length l (it .place) (it .len) in
-      let b = held-le (pathCount l) (it .place) (it .len) in
+      let a = path-length (l .entries) (it .place) (it .len) in
+      let b = held-le (pathCount (l .entries)) (it .place) (it .len) in
       omega arith
   short false e =
       let h : it .len ≤ 255 = ltb-false 255 (it .len) (passed (ltb 255 (it .len)) 18 0 e .0) in

@@ -1,4 +1,4 @@
--- The loops over a path's entries and over the items, on plain values. Assumes nothing.
+-- A path behind its head, and the loops over the items, on plain values. Assumes nothing.
 use Prim.Native.Nat.{ℕ, _+_, _-_, _*_, _%_, _<_, _≤_, min}
 use native.Mathlib.Omega.{arith}
 use mathlib.Core.Bool.{Bool}
@@ -9,106 +9,34 @@ use borrow.Author.Tests.{lt-ltb, le-ltb}
 use Rattle.base.specs.Lists.{firstOf, joined}
 use Rattle.base.proofs.Lists.{from-length, from-get, Passed, passed-more, passed-stop, passed-all, joined-more, joined-all}
 use Rattle.wire.specs.Lay.{put}
-use Rattle.wire.proofs.Laws.Lay.{put-none, put-length, puts-join, Joining, joining-none, joining-room, joining-more, joining-done}
-use Rattle.base.specs.declared.Checked.the-variants.{Accepted, Refused as No}
-use Rattle.fields.specs.Path.{pathBytes, badEntry, sixOf}
-use Rattle.fields.specs.declared.path.PathBytes.{PathBytes}
-use Rattle.fields.specs.declared.path.RelayPath.{RelayPath}
+use Rattle.wire.proofs.Laws.Lay.{put-none, puts-join, Joining, joining-none, joining-room, joining-more, joining-done}
+use Rattle.fields.specs.Path.{sixOf}
+use Rattle.heartbeats.specs.Paths.{PathLists, pathCount, pathRun, heldOf}
+use Rattle.heartbeats.proofs.Loops.{path-bytes}
 use Rattle.kept.specs.Kept.{headed}
-use Rattle.composed.specs.Composed.{Lists, lists, pathCount, pathAt, pathRun, itemCount, itemIn, itemsIn, outsideOf, badPath, valueOf, itemWire, composedBytes}
-use Rattle.composed.specs.inner.Passes.{heldOf, faultOf, totalOf}
+use Rattle.composed.specs.Composed.{Lists, lists, itemCount, itemIn, itemsIn, outsideOf, badPath, valueOf, itemWire, composedBytes}
+use Rattle.composed.specs.inner.Passes.{faultOf, totalOf}
 use Rattle.composed.specs.declared.Composed.{Composed}
 use Rattle.composed.specs.declared.Total.{Total}
 use Rattle.composed.specs.declared.Total.the-variants.{Sum, Over}
 use Rattle.composed.proofs.Faults.{over-told, within-told}
-use Rattle.fields.proofs.Laws.Path.{six-length}
-use Rattle.composed.proofs.Runs.{held-in, run-length, run-at, path-length, told-bad, told-some, told-good, told-six}
 
--- ---- a path
+-- ---- a path behind its head
 
-module _ (l : Lists) (place len k n start : ℕ) (ek : k ≡ pathCount l) (en : n ≡ heldOf k place len) (es : start ≡ place) where
-  count : n ≡ heldOf (pathCount l) place len
-  count = en ∙ ap (λ (m : ℕ). heldOf m place len) ek
+module _ (l : PathLists) (start len k n : ℕ) (ek : k ≡ pathCount l) (en : n ≡ heldOf k start len) (o : List ℕ) (at : ℕ) where
+  abbrev v : List ℕ
+  v = joined sixOf (pathRun l start len)
 
-  pub run-count : length (pathRun l place len) ≡ n
-  run-count = run-length l place len ∙ sym count
+  pub path-none : length o < at + (2 + 6 * n) → o ≡ put o at (headed 0 v)
+  path-none h = let y = path-bytes l start len k n ek en in sym (put-none o at (headed 0 v) (omega arith))
 
-  pub entry-in : (i : ℕ) → i < n → start + i < pathCount l
-  entry-in i h = rw es (held-in (pathCount l) place len i (rw (← count) h))
-
-  module _ (i : ℕ) (w : PathBytes) (h : i < n) (e : w ≡ pathBytes (pathAt l (start + i))) where
-    abbrev p : RelayPath
-    p = pathAt l (start + i)
-
-    in-run : i < length (pathRun l place len)
-    in-run = rw run-count h
-
-    the-entry : getD (pathRun l place len) i p ≡ p
-    the-entry = run-at l place len p i (rw (← count) h) ∙ ap (λ (m : ℕ). pathAt l (m + i)) (sym es)
-
-    pub path-more : w .answer ≡ Accepted → Passed badEntry (pathRun l place len) i → Passed badEntry (pathRun l place len) (i + 1)
-    path-more q y = passed-more badEntry (pathRun l place len) i p in-run (ap badEntry the-entry ∙ sym (told-good p w e q)) y
-
-    pub path-stop : (r : ℕ) → w .answer ≡ No r → Passed badEntry (pathRun l place len) i → r ≡ firstOf badEntry (pathRun l place len)
-    path-stop r q y = passed-stop badEntry (pathRun l place len) i p r in-run (ap badEntry the-entry ∙ sym (told-bad p w e r q)) (told-some p w e r q) y
-
-    six : length (w .bytes) ≡ 6
-    six = ap length (told-six p w e) ∙ six-length p
-
-    -- its six bytes, and the rest
-    pub six-ahead : joined sixOf (drop i (pathRun l place len)) ≡ w .bytes ++ joined sixOf (drop (i + 1) (pathRun l place len))
-    six-ahead =
-        joined-more sixOf (pathRun l place len) i p in-run
-        ∙ ap (λ (x : List ℕ). x ++ joined sixOf (drop (i + 1) (pathRun l place len))) (ap sixOf the-entry ∙ sym (told-six p w e))
-
-    pub six-more : (o₀ out out2 : List ℕ) (at o : ℕ) → out2 ≡ put out (at + o) (w .bytes)
-        → Joining o₀ at (joined sixOf (pathRun l place len)) out o (joined sixOf (drop i (pathRun l place len)))
-        → Joining o₀ at (joined sixOf (pathRun l place len)) out2 (o + 6) (joined sixOf (drop (i + 1) (pathRun l place len)))
-    six-more o₀ out out2 at o q j =
-        joining-more o₀ at (joined sixOf (pathRun l place len)) out o _ j (w .bytes) (joined sixOf (drop (i + 1) (pathRun l place len))) out2 6 six-ahead (sym six) q
-
-    pub six-room : (o₀ mid out : List ℕ) (at b o : ℕ) → mid ≡ put o₀ at (0 ∷ b ∷ [])
-        → Joining mid (at + 2) (joined sixOf (pathRun l place len)) out o (joined sixOf (drop i (pathRun l place len)))
-        → at + 2 + o + 6 ≤ length o₀
-    six-room o₀ mid out at b o em j =
-        let k : length mid ≡ length o₀ = ap length em ∙ put-length o₀ at (0 ∷ b ∷ []) in
-        let r = joining-room mid (at + 2) (joined sixOf (pathRun l place len)) out o _ j in
-        let a = ap length six-ahead in
-        let d = length-append (w .bytes) (joined sixOf (drop (i + 1) (pathRun l place len))) in
-        let f = six in
-        omega arith
-
-  pub path-all : (i : ℕ) → n ≤ i → Passed badEntry (pathRun l place len) i → 0 ≡ firstOf badEntry (pathRun l place len)
-  path-all i h w = passed-all badEntry (pathRun l place len) i (rw run-count h) w
-
-  pub six-none : (i : ℕ) → n ≤ i → joined sixOf (drop i (pathRun l place len)) ≡ []
-  six-none i h = joined-all sixOf (pathRun l place len) i (rw run-count h)
-
-  pub path-bytes : length (joined sixOf (pathRun l place len)) ≡ 6 * n
-  path-bytes = path-length l place len ∙ ap (λ (m : ℕ). 6 * m) (sym count)
-
-  pub path-none : (o₀ : List ℕ) (at : ℕ) → length o₀ < at + (2 + 6 * n) → o₀ ≡ put o₀ at (headed 0 (joined sixOf (pathRun l place len)))
-  path-none o₀ at h = let y = path-bytes in sym (put-none o₀ at (headed 0 (joined sixOf (pathRun l place len))) (omega arith))
-
-  pub path-begin : (b at : ℕ) (o₀ mid : List ℕ) → at + (2 + 6 * n) ≤ length o₀ → mid ≡ put o₀ at (0 ∷ b ∷ [])
-      → Joining mid (at + 2) (joined sixOf (pathRun l place len)) mid 0 (joined sixOf (pathRun l place len))
-  path-begin b at o₀ mid room em =
-      let y = path-bytes in
-      let k : length mid ≡ length o₀ = ap length em ∙ put-length o₀ at (0 ∷ b ∷ []) in
-      joining-none mid (at + 2) (joined sixOf (pathRun l place len)) (omega arith)
-
-  -- head and entries, one behind the other
-  pub path-done : (i b at o : ℕ) (o₀ mid out : List ℕ) → n ≤ i → at + (2 + 6 * n) ≤ length o₀ → b ≡ 6 * n % 256 → mid ≡ put o₀ at (0 ∷ b ∷ [])
-      → Joining mid (at + 2) (joined sixOf (pathRun l place len)) out o (joined sixOf (drop i (pathRun l place len)))
-      → out ≡ put o₀ at (headed 0 (joined sixOf (pathRun l place len)))
-  path-done i b at o o₀ mid out h room eb em j =
-      let m : b ≡ length (joined sixOf (pathRun l place len)) % 256 = eb ∙ ap (λ (x : ℕ). x % 256) (sym path-bytes) in
-      let y = path-bytes in
-      let g : at + length ((0 ∷ b ∷ []) ++ joined sixOf (pathRun l place len)) ≤ length o₀ = omega arith in
-      joining-done mid (at + 2) (joined sixOf (pathRun l place len)) out o _ j (six-none i h)
-      ∙ ap (λ (x : List ℕ). put x (at + 2) (joined sixOf (pathRun l place len))) em
-      ∙ puts-join o₀ at (0 ∷ b ∷ []) (joined sixOf (pathRun l place len)) (at + 2) refl g
-      ∙ ap (λ (x : ℕ). put o₀ at (0 ∷ x ∷ joined sixOf (pathRun l place len))) m
+  pub path-laid : at + (2 + 6 * n) ≤ length o → (b : ℕ) (mid out : List ℕ) → b ≡ 6 * n % 256 → mid ≡ put o at (0 ∷ b ∷ []) → out ≡ put mid (at + 2) v
+      → out ≡ put o at (headed 0 v)
+  path-laid room b mid out eb em eo =
+      let y = path-bytes l start len k n ek en in
+      let m : b ≡ length v % 256 = eb ∙ ap (λ (x : ℕ). x % 256) (sym y) in
+      let g : at + length ((0 ∷ b ∷ []) ++ v) ≤ length o = omega arith in
+      eo ∙ ap (λ (x : List ℕ). put x (at + 2) v) em ∙ puts-join o at (0 ∷ b ∷ []) v (at + 2) refl g ∙ ap (λ (x : ℕ). put o at (0 ∷ x ∷ v)) m
 
 -- ---- the items
 
@@ -117,7 +45,7 @@ abbrev rows : Lists → Lists
 rows l = lists (l .kinds) (l .spans) [] [] [] []
 
 abbrev lent : Lists → Lists
-lent l = lists [] [] (l .ids) (l .rssis) (l .snrs) (l .src)
+lent l = record { kinds = []; spans = []; entries = l .entries; src = l .src }
 
 -- a sum of what the first i give, which is not over
 pub record Summing {A : Type 0} (f : A → List ℕ) (xs : List A) (most i sum : ℕ) : Type 0 where
@@ -127,11 +55,11 @@ pub record Summing {A : Type 0} (f : A → List ℕ) (xs : List A) (most i sum :
 module _ (ev : Bool) (count : ℕ) (l : Lists) where
   -- what an item gives does not depend on which lists it is from
   pub same-fault : (pass : ℕ) (it : Composed) → faultOf pass ev (lent l) it ≡ faultOf pass ev l it
-  unfolding faultOf outsideOf badPath pathRun
+  unfolding faultOf outsideOf badPath
   same-fault pass it = refl
 
   pub same-wire : (it : Composed) → itemWire ev (lent l) it ≡ itemWire ev l it
-  unfolding itemWire valueOf pathRun
+  unfolding itemWire valueOf
   same-wire it = refl
 
   pub sum-none : (most : ℕ) → Summing (itemWire ev l) (itemsIn l count) most 0 0

@@ -3,7 +3,7 @@ use Prim.Native.Nat.{ℕ, min}
 use mathlib.Core.Bool.{Bool, false}
 use mathlib.Core.List.{List, [], _∷_, map}
 use lib.Dec.{ltb, eqb}
-use lib.IntN.{ℤ, pos}
+use lib.IntN.{ℤ}
 use lib.ListN.{length, getD}
 use Rattle.base.specs.Pick.{pick}
 use Rattle.base.specs.Lists.{from, imap, orElse, firstOf, joined}
@@ -12,7 +12,7 @@ use Rattle.base.specs.Answers.{Frame, bytes, unlessRefused}
 use Rattle.wire.specs.Part.{partOf}
 use Rattle.wire.specs.Run.{runAt, runRefusal}
 use Rattle.fields.specs.Path.{badEntry, sixOf}
-use Rattle.fields.specs.declared.path.RelayPath.{RelayPath}
+use Rattle.heartbeats.specs.Paths.{PathLists, paths, pathCount, pathRun}
 use Rattle.items.specs.Items.{isBeat, badBeat, heartbeatKind, proprietaryKind, pathKind, kindCode, listedItems}
 use Rattle.items.specs.declared.item.Item.{Item}
 use Rattle.kept.specs.Kept.{headed, fixed}
@@ -22,30 +22,11 @@ use Rattle.composed.specs.declared.Composed.{Composed}
 pub record Lists : Type 0 where
   pub kinds : List (List ℕ)
   pub spans : List (List ℕ)
-  pub ids : List ℕ
-  pub rssis : List ℤ
-  pub snrs : List ℤ
+  pub entries : PathLists
   pub src : List ℕ
 
 abbrev pub lists : List (List ℕ) → List (List ℕ) → List ℕ → List ℤ → List ℤ → List ℕ → Lists
-lists kinds spans ids rssis snrs src = record { kinds = kinds; spans = spans; ids = ids; rssis = rssis; snrs = snrs; src = src }
-
--- only the entries of paths
-abbrev pub paths : List ℕ → List ℤ → List ℤ → Lists
-paths ids rssis snrs = lists [] [] ids rssis snrs []
-
--- ---- the entries of paths
-
--- the shortest list counts
-abbrev pub pathCount : Lists → ℕ
-pathCount l = min (length (l .ids)) (min (length (l .rssis)) (length (l .snrs)))
-
-abbrev pub pathAt : Lists → ℕ → RelayPath
-pathAt l i = record { «relay_id» = getD (l .ids) i 0; rssi = getD (l .rssis) i (pos 0); snr = getD (l .snrs) i (pos 0) }
-
--- n entries from a place on, and none where they run outside
-unfoldable pub pathRun : Lists → ℕ → ℕ → List RelayPath
-pathRun l place n = pick (eqb (runRefusal (pathCount l) (runAt place n)) 0) (from n place (pathAt l)) []
+lists kinds spans ids rssis snrs src = record { kinds = kinds; spans = spans; entries = paths ids rssis snrs; src = src }
 
 -- ---- the items
 
@@ -81,10 +62,10 @@ badKind ev it =
     (pick ev (pick (eqb (it .kind) heartbeatKind) 0 (pick (eqb (it .kind) pathKind) 0 typeLarge)) typeLarge)
 
 unfoldable pub outsideOf : Bool → Lists → Composed → ℕ
-outsideOf ev l it = runRefusal (pick (isPath ev it) (pathCount l) (length (l .src))) (runAt (it .place) (it .len))
+outsideOf ev l it = runRefusal (pick (isPath ev it) (pathCount (l .entries)) (length (l .src))) (runAt (it .place) (it .len))
 
 unfoldable pub badPath : Bool → Lists → Composed → ℕ
-badPath ev l it = pick (isPath ev it) (firstOf badEntry (pathRun l (it .place) (it .len))) 0
+badPath ev l it = pick (isPath ev it) (firstOf badEntry (pathRun (l .entries) (it .place) (it .len))) 0
 
 unfoldable pub longOf : Bool → Composed → ℕ
 longOf ev it = pick (ltb (pick (isPath ev it) pathMost itemMost) (it .len)) itemLong 0
@@ -111,7 +92,7 @@ verdictOf ev l n =
 -- a path's entries, or the bytes of a value with a heartbeat's ignored bits cleared
 unfoldable pub valueOf : Bool → Lists → Composed → List ℕ
 valueOf ev l it =
-    pick (isPath ev it) (joined sixOf (pathRun l (it .place) (it .len)))
+    pick (isPath ev it) (joined sixOf (pathRun (l .entries) (it .place) (it .len)))
     (imap (fixed (isBeat ev (it .tag))) 0 (partOf (l .src) (it .place) (it .len)))
 
 unfoldable pub itemWire : Bool → Lists → Composed → List ℕ

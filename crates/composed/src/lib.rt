@@ -4,24 +4,25 @@ ghost use mathlib.Core.List.{[]};
 ghost use mathlib.Core.Bool.{false as no};
 ghost use Prim.Native.Nat.{min};
 ghost use lib.Dec.{eqb, ltb};
-ghost use lib.IntN.{pos};
-ghost use lib.ListN.{length, getD};
+ghost use lib.ListN.{length};
 ghost use Rattle.base.specs.Pick.{pick};
 ghost use Rattle.base.specs.Lists.{firstOf, joined};
 ghost use Rattle.base.specs.Numbers.{itemLong, heartbeatLength, itemMost, pathMost};
 ghost use Rattle.wire.specs.Lay.{put};
-ghost use Rattle.fields.specs.Path.{pathBytes, badEntry, sixOf};
+ghost use Rattle.fields.specs.Path.{sixOf};
+ghost use Rattle.heartbeats.specs.Paths.{paths, pathRun};
 ghost use Rattle.items.specs.Items.{badBeat, pathKind};
 ghost use Rattle.kept.specs.Kept.{headed};
-ghost use Rattle.composed.specs.Composed.{lists, paths, pathCount, pathAt, pathRun, tagOf, itemIn, itemsIn, itemWire, badKind, kindsRefusal, verdictOf, composedBytes};
-ghost use Rattle.composed.specs.inner.Passes.{capped, heldOf, pairAt, reachFor, faultOf, totalOf};
+ghost use Rattle.composed.specs.Composed.{lists, tagOf, itemIn, itemsIn, itemWire, badKind, kindsRefusal, verdictOf, composedBytes};
+ghost use Rattle.composed.specs.inner.Passes.{capped, pairAt, reachFor, faultOf, totalOf};
 ghost use Rattle.wire.specs.Run.{runAt};
-use base::Checked;
 use base::Limit;
 use base::Refusal;
 use base::least;
-use fields::PathBytes;
-use fields::RelayPath;
+use heartbeats::bad_run;
+use heartbeats::held;
+use heartbeats::path_count;
+use heartbeats::put_path;
 use items::ItemKind;
 use kept::is_beat;
 use kept::low_byte;
@@ -56,80 +57,6 @@ pub fn run_of(place: u32, len: u32) -> Run
         start: size_of(place),
         len: size_of(len),
     }
-}
-
-// How many of a run there are in a list of n: all, or none where it runs outside.
-pub fn held(n: usize, place: u32, len: u32) -> usize
-    ensures { λ r. ⌜ r ≡ heldOf n place len ⌝ }
-{
-    if run_of(place, len).refusal(n) == 0 {
-        return size_of(len);
-    }
-    0
-}
-
-// ---- the entries of paths
-pub fn path_count(ids: &[u32], rssis: &[i16], snrs: &[i8]) -> usize
-    ensures { λ r. ⌜ r ≡ pathCount (paths (now (ids .entry)) (now (rssis .entry)) (now (snrs .entry))) ⌝ }
-{
-    least(ids.len(), least(rssis.len(), snrs.len()))
-}
-
-fn id_at(ids: &[u32], i: usize) -> u32
-    ensures { λ r. ⌜ r ≡ getD (now (ids .entry)) i 0 ⌝ }
-{
-    if i < ids.len() {
-        return ids[i];
-    }
-    0
-}
-
-fn rssi_at(rssis: &[i16], i: usize) -> i16
-    ensures { λ r. ⌜ r ≡ getD (now (rssis .entry)) i (pos 0) ⌝ }
-{
-    if i < rssis.len() {
-        return rssis[i];
-    }
-    0
-}
-
-fn snr_at(snrs: &[i8], i: usize) -> i8
-    ensures { λ r. ⌜ r ≡ getD (now (snrs .entry)) i (pos 0) ⌝ }
-{
-    if i < snrs.len() {
-        return snrs[i];
-    }
-    0
-}
-
-// An entry as it is written, or why it is not; beyond a list's end stands 0.
-pub fn entry(i: usize, ids: &[u32], rssis: &[i16], snrs: &[i8]) -> PathBytes
-    ensures { λ r. ⌜ r ≡ pathBytes (pathAt (paths (now (ids .entry)) (now (rssis .entry)) (now (snrs .entry))) i) ⌝ }
-{
-    let p = RelayPath {
-        relay_id: id_at(ids, i),
-        rssi: rssi_at(rssis, i),
-        snr: snr_at(snrs, i),
-    };
-    p.to_bytes()
-}
-
-// The first bad entry of a path.
-fn bad_run(place: u32, len: u32, ids: &[u32], rssis: &[i16], snrs: &[i8]) -> u8
-    ensures { λ r. ⌜ r ≡ firstOf badEntry (pathRun (paths (now (ids .entry)) (now (rssis .entry)) (now (snrs .entry))) place len) ⌝ }
-{
-    let n = held(path_count(ids, rssis, snrs), place, len);
-    let start = size_of(place);
-    let mut i: usize = 0;
-    while i < n {
-        let made = entry(start + i, ids, rssis, snrs);
-        let answer = made.answer;
-        match answer {
-            Checked::Accepted => i += 1,
-            Checked::Refused(r) => return r,
-        }
-    }
-    0
 }
 
 // ---- the items
@@ -283,7 +210,7 @@ fn fault(
     }
     if pass == 1 {
         if path {
-            return bad_run(it.place, it.len, ids, rssis, snrs);
+            return bad_run(size_of(it.place), size_of(it.len), ids, rssis, snrs);
         }
         return 0;
     }
@@ -363,9 +290,9 @@ fn item_size(
     ensures { λ r. ⌜ r ≡ length (itemWire «is_event» (lists [] [] (now (ids .entry)) (now (rssis .entry)) (now (snrs .entry)) (now (src .entry))) it) ⌝ }
 {
     if is_path(is_event, it.kind) {
-        return 2 + Limit::ENTRY * held(path_count(ids, rssis, snrs), it.place, it.len);
+        return 2 + Limit::ENTRY * held(path_count(ids, rssis, snrs), run_of(it.place, it.len));
     }
-    2 + held(src.len(), it.place, it.len)
+    2 + held(src.len(), run_of(it.place, it.len))
 }
 
 fn sum_up(
@@ -426,37 +353,32 @@ pub fn size(
 }
 
 // ---- bytes
-fn put_path(
-    place: u32,
-    len: u32,
+// A path: a head with tag 0, then its entries.
+fn lay_path(
+    start: usize,
+    len: usize,
     ids: &[u32],
     rssis: &[i16],
     snrs: &[i8],
     out: &mut [u8],
     at: usize,
 )
-    ensures { λ _. ⌜ now (out .exit) ≡ put (now (out .entry)) at (headed 0 (joined sixOf (pathRun (paths (now (ids .entry)) (now (rssis .entry)) (now (snrs .entry))) place len))) ⌝ }
+    ensures { λ _. ⌜ now (out .exit) ≡ put (now (out .entry)) at (headed 0 (joined sixOf (pathRun (paths (now (ids .entry)) (now (rssis .entry)) (now (snrs .entry))) start len))) ⌝ }
 {
-    let n = held(path_count(ids, rssis, snrs), place, len);
+    let n = held(path_count(ids, rssis, snrs), Run { start, len });
     if out.len() < at {
         return;
     }
-    if out.len() - at < 2 + Limit::ENTRY * n {
+    let room = out.len() - at;
+    if room < 2 {
+        return;
+    }
+    if (room - 2) / Limit::ENTRY < n {
         return;
     }
     let head = [0u8, low_byte(Limit::ENTRY * n)];
     put_all(&head, out, at);
-    let start = size_of(place);
-    let body = at + 2;
-    let mut i: usize = 0;
-    let mut o: usize = 0;
-    while i < n {
-        let made = entry(start + i, ids, rssis, snrs);
-        let six = made.bytes;
-        put_all(&six, out, body + o);
-        o += Limit::ENTRY;
-        i += 1;
-    }
+    put_path(start, len, ids, rssis, snrs, out, at + 2);
 }
 
 fn lay_item(
@@ -472,7 +394,15 @@ fn lay_item(
     ensures { λ _. ⌜ now (out .exit) ≡ put (now (out .entry)) at (itemWire «is_event» (lists [] [] (now (ids .entry)) (now (rssis .entry)) (now (snrs .entry)) (now (src .entry))) it) ⌝ }
 {
     if is_path(is_event, it.kind) {
-        put_path(it.place, it.len, ids, rssis, snrs, out, at);
+        lay_path(
+            size_of(it.place),
+            size_of(it.len),
+            ids,
+            rssis,
+            snrs,
+            out,
+            at,
+        );
     } else {
         put_item(
             is_beat(is_event, it.tag),

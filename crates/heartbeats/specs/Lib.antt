@@ -1,2 +1,3 @@
 pub mod Heartbeat
+pub mod Paths
 pub mod inner

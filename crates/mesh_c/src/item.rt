@@ -3,8 +3,7 @@ ghost use mathlib.Core.Path.{_≡_};
 ghost use mathlib.Core.Bool.{not};
 ghost use Rattle.base.specs.Answers.{answerOf, outOf, numberIn, leftBy, writtenSays};
 ghost use Rattle.heartbeats.specs.Heartbeat.{beatSays, beatOf, pathSays, entryRead, beatWire};
-ghost use Rattle.composed.specs.Composed.{paths};
-ghost use Rattle.paths.specs.Paths.{pathsIn};
+ghost use Rattle.heartbeats.specs.Paths.{paths, pathsIn};
 ghost use Rattle.items.specs.Items.{countsOf, countsSay, bareItemAt, itemSays};
 ghost use Rattle.seal.specs.Stream.{sealedOf};
 ghost use Rattle.mesh_c.specs.Face.{asItIs, countList, itemList, foundList, entriesIn, entryRelay, entryRssi, entrySnr};
@@ -15,13 +14,13 @@ use flat::from_u8;
 use heartbeats::HeartbeatPayload;
 use heartbeats::HeartbeatRead;
 use heartbeats::PathRead;
+use heartbeats::write_path;
 use items::Command;
 use items::Event;
 use items::Item;
 use items::ItemRead;
 use items::Opening;
 use items::OpeningRead;
-use paths::write_path;
 use seal::encrypt_events_commands;
 
 // A payload sealed, or a sealed one opened: 0, 5 or 21.

@@ -1,2 +1,4 @@
 pub mod Fixed
+pub mod Absorbing
+pub mod Bytes
 pub mod Steps

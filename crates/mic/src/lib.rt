@@ -9,7 +9,10 @@ ghost use Rattle.bodies.specs.Body.{lent, bodyWire};
 ghost use Rattle.payloads.specs.Write.{prefixed, uplinkWire, downlinkWire, headedBy};
 ghost use Rattle.mic.specs.Mic.{fitting, signedOf, setMic, validateMic};
 ghost use Rattle.mic.specs.inner.Made.{madeOf};
-use absorbed::absorb_body;
+
+mod absorb;
+
+use absorb::absorb_body;
 use aes128::Aes128Key;
 use base::Checked;
 use base::Limit;

@@ -1,4 +1,4 @@
--- What the functions inside cite: one pass by its number, how much of a run a list holds, a pair at a place, and a sum that may be over.
+-- What the functions inside cite: one pass by its number, a pair at a place, and a sum that may be over.
 -- Assumes nothing.
 use Prim.Native.Nat.{ℕ, _+_}
 use mathlib.Core.Bool.{Bool}
@@ -7,15 +7,11 @@ use lib.Dec.{ltb, eqb}
 use lib.ListN.{length, getD}
 use Rattle.base.specs.Pick.{pick}
 use Rattle.base.specs.Numbers.{frameMost}
-use Rattle.wire.specs.Run.{runAt, runRefusal}
-use Rattle.composed.specs.Composed.{Lists, pathCount, outsideOf, badPath, longOf, unevenOf}
+use Rattle.heartbeats.specs.Paths.{pathCount}
+use Rattle.composed.specs.Composed.{Lists, outsideOf, badPath, longOf, unevenOf}
 use Rattle.composed.specs.declared.Composed.{Composed}
 use Rattle.composed.specs.declared.Total.{Total}
 use Rattle.composed.specs.declared.Total.the-variants.{Sum, Over}
-
--- all of a run, or nothing where it lies outside a list of n
-unfoldable pub heldOf : ℕ → ℕ → ℕ → ℕ
-heldOf n place len = pick (eqb (runRefusal n (runAt place len)) 0) len 0
 
 -- zeros beyond the list's end
 unfoldable pub pairAt : List (List ℕ) → ℕ → List ℕ
@@ -23,7 +19,7 @@ pairAt l i = pick (ltb i (length l)) (getD l i []) (0 ∷ 0 ∷ [])
 
 -- how long the list is that an item's place and length are in
 abbrev pub reachFor : Bool → Lists → ℕ
-reachFor path l = pick path (pathCount l) (length (l .src))
+reachFor path l = pick path (pathCount (l .entries)) (length (l .src))
 
 unfoldable pub faultOf : ℕ → Bool → Lists → Composed → ℕ
 faultOf pass ev l it =
