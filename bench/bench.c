@@ -171,8 +171,10 @@ static void agree_cache(void)
 
 static mesh_packet packet_of(const struct hand *h)
 {
-    return (mesh_packet){h->kind, h->payload_type, h->hop_count, h->has_mic, h->mic, h->relay_id, h->uplink_id, h->dr, h->channel,
-                         h->frequency, h->tx_power, h->delay, h->timestamp, h->body, h->start, h->len, h->rssi, h->snr};
+    return (mesh_packet){.kind = h->kind, .payload_type = h->payload_type, .hop_count = h->hop_count, .has_mic = h->has_mic, .mic = h->mic,
+                         .relay_id = h->relay_id, .uplink_id = h->uplink_id, .dr = h->dr, .channel = h->channel, .frequency = h->frequency,
+                         .tx_power = h->tx_power, .delay = h->delay, .timestamp = h->timestamp, .body = h->body, .start = h->start, .len = h->len,
+                         .rssi = h->rssi, .snr = h->snr};
 }
 
 static bool same_packet(const mesh_packet *p, const struct hand *h)

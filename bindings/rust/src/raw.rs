@@ -165,15 +165,10 @@ fn answer(number: u8) -> Result<(), Refusal> {
     }
 }
 
-impl Flat {
-    fn place(&self) -> Place {
-        Place { body: self.body, start: self.start, len: self.len }
-    }
-}
-
 /// The place that a call left in the numbers of a packet.
 fn place(numbers: [u64; MESH_PACKET_NUMBERS]) -> Place {
-    Flat::of(numbers, 0, 0).place()
+    let Flat { body, start, len, .. } = Flat::of(numbers, 0, 0);
+    Place { body, start, len }
 }
 
 macro_rules! with_lent {
