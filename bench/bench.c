@@ -1,6 +1,6 @@
-/* Speed and stack of the cipher, the MIC and the stream, beside OpenSSL's, and of whole frames, in one process. bench/run builds and
-   runs it twice: with the processor's AES instructions and with them switched off for OpenSSL; the port uses none, so its figures should
-   be the same in both. */
+/* Speed and stack of the cipher, the MIC and the stream, beside OpenSSL's, and of whole frames, reading and writing beside limit.c, in one
+   process. bench/run builds and runs it twice: with the processor's AES instructions and with them switched off for OpenSSL; the port uses
+   none, so its figures should be the same in both. `bench limit` measures the last part alone. */
 #define _GNU_SOURCE
 #define OPENSSL_SUPPRESS_DEPRECATED
 #include <openssl/aes.h>
@@ -13,10 +13,11 @@
 #include <string.h>
 #include <time.h>
 
+#include "limit.h"
 #include "mesh.h"
 
 static uint8_t key[16], message[255], block[16], tag[16], sealed[255], work[255];
-static uint64_t counts[6];
+static uint64_t counts[MESH_COUNTS_NUMBERS];
 static uint32_t ready[MESH_CIPHER_WORDS];
 
 static double now(void)
@@ -140,8 +141,8 @@ static void agree_frames(void)
 /* Sequences of adds beside a list of the last records, which is what document 01 says. */
 static void agree_cache(void)
 {
-    struct { uint8_t type; uint16_t id; uint32_t time, relay; } last[64], r;
-    uint32_t words[195];
+    mesh_record_of last[MESH_CACHE_MOST], r;
+    uint32_t words[MESH_CACHE_WORDS];
     uint8_t is_new;
     long adds = 0, hits = 0;
     if (mesh_cache_clear(words, 0) != 24 || mesh_cache_clear(words, 65) != 24) fail("a cache of 0 or 65 is made");
@@ -150,21 +151,126 @@ static void agree_cache(void)
         if (mesh_cache_clear(words, size)) fail("a cache is refused");
         for (int turn = 0; turn < 2000; turn++, adds++) {
             /* records that are nearly the same, so that about half of them are hits */
-            r.type = rand() & 7 ? 0 : rand() & 3, r.id = rand() % (size + 2), r.time = !(rand() & 7);
-            r.relay = rand() & 7 ? 0x0a0b0c0d : 0x0a0b0c0d ^ 1u << (rand() & 31);
+            r.type = rand() & 7 ? 0 : rand() & 3, r.uplink_id = rand() % (size + 2), r.timestamp = !(rand() & 7);
+            r.relay_id = rand() & 7 ? 0x0a0b0c0d : 0x0a0b0c0d ^ 1u << (rand() & 31);
             bool there = false;
-            for (uint32_t i = 0; i < held; i++)
-                there |= last[i].type == r.type && last[i].id == r.id && last[i].time == r.time && last[i].relay == r.relay;
+            for (uint32_t i = 0; i < held; i++) there |= memcmp(&last[i], &r, sizeof r) == 0;
             if (!there) {
                 if (held == size) memmove(last, last + 1, --held * sizeof r);
                 last[held++] = r;
             }
             hits += there;
-            if (mesh_cache_add(words, r.type, r.id, r.time, r.relay, &is_new) || is_new == there)
+            if (mesh_cache_add(words, (const uint64_t *)&r, &is_new) || is_new == there)
                 fail("the cache differs from the list of the last records");
         }
     }
     printf("%ld adds to caches of 1 to 64, %ld of them hits: as a list of the last records has them\n", adds, hits);
+}
+
+/* ---- reading and writing, beside what is written by hand */
+
+static mesh_packet packet_of(const struct hand *h)
+{
+    return (mesh_packet){.kind = h->kind, .payload_type = h->payload_type, .hop_count = h->hop_count, .has_mic = h->has_mic, .mic = h->mic,
+                         .relay_id = h->relay_id, .uplink_id = h->uplink_id, .dr = h->dr, .channel = h->channel, .frequency = h->frequency,
+                         .tx_power = h->tx_power, .delay = h->delay, .timestamp = h->timestamp, .body = h->body, .start = h->start, .len = h->len,
+                         .rssi = h->rssi, .snr = h->snr};
+}
+
+static bool same_packet(const mesh_packet *p, const struct hand *h)
+{
+    mesh_packet q = packet_of(h);
+    return memcmp(p, &q, MESH_PACKET_NUMBERS * sizeof(uint64_t)) == 0 && p->rssi == q.rssi && p->snr == q.snr;
+}
+
+/* Random frames, of all lengths up to two beyond the shortest and some longer, and random uplinks with a fault in some field or in none. */
+static void agree_limit(void)
+{
+    static uint8_t frame[8200], out[2][8200];
+    long taken = 0, wrote = 0;
+    for (int round = 0; round < 100000; round++) {
+        size_t n = round % 100 ? (size_t)(rand() % (rand() & 3 ? 18 : 300)) : 8188 + (size_t)(rand() % 8);
+        for (size_t i = 0; i < n; i++) frame[i] = rand();
+        if (rand() & 7) frame[0] |= 0xe0;
+        mesh_packet p;
+        struct hand h;
+        memset(&p, 0xa5, sizeof p), memset(&h, 0xa5, sizeof h);
+        uint8_t mine = mesh_packet_read(&p, frame, n), theirs = hand_read(&h, frame, n);
+        if (mine != theirs || (mine == 0 && !same_packet(&p, &h))) fail("a frame is read otherwise than by hand");
+        for (size_t i = 0; mine && i < sizeof p; i++)
+            if (((uint8_t *)&p)[i] != 0xa5) fail("a refused reading changes the packet");
+        taken += mine == 0;
+    }
+    for (int round = 0; round < 100000; round++) {
+        struct hand h = {.hop_count = 1 + (rand() & 7), .has_mic = true, .mic = (uint32_t)rand() * 3u, .relay_id = (uint32_t)rand() * 5u,
+                         .uplink_id = rand() & 4095, .dr = rand() & 15, .rssi = -(rand() & 255), .snr = (rand() & 63) - 32, .channel = rand(),
+                         .start = rand() % 30, .len = rand() % 30};
+        size_t n = 60, room = 14 + h.len + rand() % 3;
+        for (int faults = rand() % 3; faults > 0; faults--)
+            switch (rand() % 12) {
+            case 0: h.payload_type = rand(); break;
+            case 1: h.hop_count = rand() % 12; break;
+            case 2: h.hop_count = 0; break;
+            case 3: h.start = rand() % 90; break;
+            case 4: h.len = (uint64_t)rand() << (rand() & 63); break;
+            case 5: h.uplink_id = rand(); break;
+            case 6: h.dr = rand(); break;
+            case 7: h.rssi = rand(); break;
+            case 8: h.snr = rand(); break;
+            case 9: h.has_mic = false; break;
+            case 10: room = rand() % 40; break;
+            default: n = 8200, h.start = 0, h.len = 8170 + rand() % 20;
+            }
+        mesh_packet p = packet_of(&h);
+        mesh_lent lent = mesh_lent_frame(frame, n);
+        uint64_t mine_length = 77, their_length = 77;
+        memset(out, 0xa5, sizeof out);
+        uint8_t mine = mesh_packet_write(&p, &lent, out[0], room, &mine_length), theirs = hand_write(&h, frame, n, out[1], room, &their_length);
+        if (mine != theirs || mine_length != their_length || memcmp(out[0], out[1], sizeof out[0])) fail("an uplink is written otherwise than by hand");
+        wrote += mine == 0;
+    }
+    printf("100000 frames read, %ld of them taken, and 100000 uplinks written, %ld of them taken: as by hand\n", taken, wrote);
+}
+
+static int by_size(const void *a, const void *b) { return (*(const double *)a > *(const double *)b) - (*(const double *)a < *(const double *)b); }
+
+/* In turns of each, so that what disturbs one disturbs the other: the medians. */
+#define BESIDE(what, mine, theirs)                                                                                       \
+    do {                                                                                                                 \
+        enum { TURNS = 501, CALLS = 2000 };                                                                              \
+        static double times[2][TURNS];                                                                                   \
+        for (int turn = 0; turn < TURNS; turn++) {                                                                       \
+            double start = now();                                                                                        \
+            for (long i = 0; i < CALLS; i++) { mine; }                                                                   \
+            double between = now();                                                                                      \
+            for (long i = 0; i < CALLS; i++) { theirs; }                                                                 \
+            times[0][turn] = (between - start) / CALLS, times[1][turn] = (now() - between) / CALLS;                      \
+        }                                                                                                                \
+        for (int side = 0; side < 2; side++) qsort(times[side], TURNS, sizeof(double), by_size);                         \
+        printf("%-44s %9.1f %9.1f %8.2f\n", what, times[0][TURNS / 2], times[1][TURNS / 2], times[0][TURNS / 2] / times[1][TURNS / 2]); \
+    } while (0)
+
+static void beside_limit(void)
+{
+    enum { KINDS = 16, LENGTH = 14 + 20 };
+    static uint8_t frames[KINDS][LENGTH], out[64];
+    static mesh_packet packets[KINDS], p;
+    static struct hand hands[KINDS], h;
+    static mesh_lent lents[KINDS];
+    uint64_t length, sum = 0;
+    for (int k = 0; k < KINDS; k++) {
+        for (int i = 0; i < LENGTH; i++) frames[k][i] = rand();
+        frames[k][0] = 0xe0 | (k & 7);
+        if (mesh_packet_read(&packets[k], frames[k], LENGTH) || hand_read(&hands[k], frames[k], LENGTH)) fail("an uplink is refused");
+        lents[k] = mesh_lent_frame(frames[k], LENGTH);
+    }
+    printf("%-44s %9s %9s %8s\n", "ns, medians of 501 turns of 2,000 calls", "port", "by hand", "ratio");
+    BESIDE("an uplink of 34 bytes read into the struct", sum += mesh_packet_read(&p, frames[i % KINDS], LENGTH) + p.mic,
+           sum += hand_read(&h, frames[i % KINDS], LENGTH) + h.mic);
+    BESIDE("an uplink of 34 bytes written", sum += mesh_packet_write(&packets[i % KINDS], &lents[i % KINDS], out, sizeof out, &length) + length + out[9],
+           sum += hand_write(&hands[i % KINDS], frames[i % KINDS], LENGTH, out, sizeof out, &length) + length + out[9]);
+    /* what was summed up is used, or the loops could be left out */
+    if (sum == 1) printf("\n");
 }
 
 /* ---- the stack: a thread on a stack that was painted before, and how far down the paint is gone */
@@ -197,8 +303,12 @@ static void row(const char *what, double mine, double theirs, const char *whose)
 
 int main(int count, char **words)
 {
-    (void)count;
     srand(4493);
+    agree_limit();
+    if (count > 1 && strcmp(words[1], "limit") == 0) {
+        beside_limit();
+        return 0;
+    }
     agree();
     agree_frames();
     agree_cache();
@@ -235,14 +345,15 @@ int main(int count, char **words)
 
     /* a cache of 64 that is full: records that were never added, and the newest and the oldest that are there */
     double fresh, newest, oldest;
-    uint32_t held[195], id = 0;
+    uint32_t held[MESH_CACHE_WORDS];
+    uint64_t known[MESH_RECORD_NUMBERS] = {0, 1, 0, 0x0a0b0c0d};
     uint8_t is_new = 0;
     mesh_cache_clear(held, 64);
-    TIME(fresh, 5000, mesh_cache_add(held, 0, 1, id++, 0x0a0b0c0d, &is_new); id += is_new);
-    id = held[67 + (held[2] + 63) % 64];
-    TIME(newest, 5000, mesh_cache_add(held, 0, 1, id, 0x0a0b0c0d, &is_new); id += is_new);
-    id = held[67 + held[2]];
-    TIME(oldest, 5000, mesh_cache_add(held, 0, 1, id, 0x0a0b0c0d, &is_new); id += is_new);
+    TIME(fresh, 5000, mesh_cache_add(held, known, &is_new); known[2] += is_new);
+    known[2] = held[67 + (held[2] + 63) % 64];
+    TIME(newest, 5000, mesh_cache_add(held, known, &is_new); known[2] += is_new);
+    known[2] = held[67 + held[2]];
+    TIME(oldest, 5000, mesh_cache_add(held, known, &is_new); known[2] += is_new);
 
     AES_KEY theirs;
     uint8_t many[4096] = {0};
@@ -295,6 +406,8 @@ int main(int count, char **words)
     printf("%-44s %9.1f\n", "a new record, in a full cache of 64", fresh);
     printf("%-44s %9.1f\n", "a hit there, the newest record", newest);
     printf("%-44s %9.1f\n", "a hit there, the oldest record", oldest);
+
+    beside_limit();
 
     size_t none = depth(idle);
     printf("stack of a MIC, key set: %zu bytes; key ready: %zu bytes\n", depth(sign) - none, depth(sign_ready) - none);

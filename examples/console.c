@@ -55,11 +55,11 @@ static enum received receive(const uint8_t *frame, size_t n, const struct keys *
     return NEW;
 }
 
-static void print_relay(uint32_t id) {
+static void print_relay(uint64_t id) {
     const char *name = "not listed";
     for (size_t i = 0; i < sizeof RELAYS / sizeof *RELAYS; i++)
         if (RELAYS[i].id == id) name = RELAYS[i].name;
-    printf("%08" PRIx32 " (%s)", id, name);
+    printf("%08" PRIx64 " (%s)", id, name);
 }
 
 static void print_hex(const uint8_t *b, uint64_t n) {
@@ -100,19 +100,19 @@ static void print_items(const mesh_packet *p, const uint8_t *work) {
 static void print_packet(const mesh_packet *p, const uint8_t *frame, const uint8_t *work) {
     switch (p->kind) {
     case MESH_UPLINK:
-        printf("uplink %u from ", p->uplink_id);
+        printf("uplink %" PRIu64 " from ", p->uplink_id);
         print_relay(p->relay_id);
         printf(" rssi %d snr %d: ", p->rssi, p->snr);
         print_hex(frame + p->start, p->len);
         break;
     case MESH_DOWNLINK:
-        printf("downlink %u to ", p->uplink_id);
+        printf("downlink %" PRIu64 " to ", p->uplink_id);
         print_relay(p->relay_id);
         printf(": ");
         print_hex(frame + p->start, p->len);
         break;
     default:
-        printf("%s at %" PRIu32 " %s ", p->kind == MESH_EVENT ? "event" : "command", p->timestamp, p->kind == MESH_EVENT ? "from" : "to");
+        printf("%s at %" PRIu64 " %s ", p->kind == MESH_EVENT ? "event" : "command", p->timestamp, p->kind == MESH_EVENT ? "from" : "to");
         print_relay(p->relay_id);
         printf("\n");
         print_items(p, work);
@@ -138,6 +138,7 @@ int main(void) {
     uint8_t root[16];
     struct keys keys;
     mesh_cache cache;
+    if (mesh_version() != MESH_VERSION) return 1;
     if (mesh_key_of_text((const uint8_t *)ROOT, strlen(ROOT), root)) return 1;
     mesh_signing_key(root, keys.signing);
     mesh_encryption_key(root, keys.encryption);

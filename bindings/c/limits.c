@@ -119,28 +119,33 @@ static void take_back(const mesh_lent *c, const mesh_lent *l) {
 
 static const mesh_lent NONE;
 
+/* A packet's numbers, in their own allocation, and what a call is to have left of them. */
+#define NUMBERS (MESH_PACKET_NUMBERS * sizeof(uint64_t))
+
+static uint64_t *numbers_of(const mesh_packet *p) { return copy(p, NUMBERS); }
+
+static void left(uint64_t *numbers, const mesh_packet *p) { back(numbers, p, NUMBERS); }
+
 /* ---- the calls; each gives the number */
 
-static uint64_t numbers_read[16];
-static int16_t rssi_read;
-static int8_t snr_read;
+static mesh_packet read_as;
 
 enum reader { ANY, MESH, BODY };
 
 static uint8_t do_read(enum reader reader, uint8_t kind, const uint8_t *b, size_t n) {
     uint8_t *frame = copy(b, n);
-    uint64_t *numbers = room(16 * sizeof *numbers);
+    uint64_t *numbers = room(NUMBERS);
     int16_t *rssi = room(sizeof *rssi);
     int8_t *snr = room(sizeof *snr);
     uint8_t r = reader == ANY    ? mesh_read(frame, n, numbers, rssi, snr)
                 : reader == MESH ? mesh_read_mesh(frame, n, numbers, rssi, snr)
                                  : mesh_read_body(kind, frame, n, numbers, rssi, snr);
     if (r) {
-        CHECK(untouched(numbers, 16 * sizeof *numbers) && untouched(rssi, sizeof *rssi) && untouched(snr, sizeof *snr));
+        CHECK(untouched(numbers, NUMBERS) && untouched(rssi, sizeof *rssi) && untouched(snr, sizeof *snr));
     } else {
-        memcpy(numbers_read, numbers, sizeof numbers_read);
-        rssi_read = *rssi;
-        snr_read = *snr;
+        memcpy(&read_as, numbers, NUMBERS);
+        read_as.rssi = *rssi;
+        read_as.snr = *snr;
     }
     back(frame, b, n);
     free(numbers);
@@ -170,24 +175,34 @@ static uint8_t do_write(bool body, const mesh_packet *p, const mesh_lent *l, siz
     mesh_lent c = lend(l);
     uint8_t *out = room(out_len);
     uint64_t *length = room(sizeof *length);
-    uint8_t r = body ? mesh_write_body(MESH_PACKET_OF(p), MESH_LENT_OF(&c), out, out_len, length)
-                     : mesh_write(MESH_PACKET_OF(p), MESH_LENT_OF(&c), out, out_len, length);
+    uint64_t *numbers = numbers_of(p);
+    uint8_t r = body ? mesh_write_body(numbers, p->rssi, p->snr, MESH_LENT_OF(&c), out, out_len, length)
+                     : mesh_write(numbers, p->rssi, p->snr, MESH_LENT_OF(&c), out, out_len, length);
     wrote(r, out, out_len, length);
+    left(numbers, p);
     take_back(&c, l);
     return r;
 }
 
-static uint32_t mic_made;
+static uint64_t mic_made;
 
 static uint8_t do_sign(const mesh_packet *p, const mesh_lent *l) {
     mesh_lent c = lend(l);
     uint8_t *key = copy(KEY, 16);
-    uint32_t *made = room(sizeof *made);
-    uint8_t r = mesh_sign(MESH_PACKET_OF(p), key, MESH_LENT_OF(&c), made);
-    if (r) CHECK(untouched(made, sizeof *made));
-    mic_made = *made;
+    mesh_packet after = *p;
+    uint64_t *numbers = numbers_of(p);
+    uint8_t r = mesh_sign(numbers, p->rssi, p->snr, key, MESH_LENT_OF(&c));
+    if (r == 0) {
+        memcpy(&after, numbers, NUMBERS);
+        mic_made = after.mic;
+        CHECK(mic_made <= UINT32_MAX);
+        /* No other number changes. */
+        after = *p;
+        after.has_mic = 1;
+        after.mic = mic_made;
+    }
+    left(numbers, &after);
     back(key, KEY, 16);
-    free(made);
     take_back(&c, l);
     return r;
 }
@@ -198,7 +213,9 @@ static uint8_t do_validate(const mesh_packet *p, const mesh_lent *l) {
     mesh_lent c = lend(l);
     uint8_t *key = copy(KEY, 16);
     uint8_t *valid = room(1);
-    uint8_t r = mesh_validate(MESH_PACKET_OF(p), key, MESH_LENT_OF(&c), valid);
+    uint64_t *numbers = numbers_of(p);
+    uint8_t r = mesh_validate(numbers, p->rssi, p->snr, key, MESH_LENT_OF(&c), valid);
+    left(numbers, p);
     if (r) CHECK(*valid == BEFORE);
     was_valid = *valid;
     back(key, KEY, 16);
@@ -207,28 +224,38 @@ static uint8_t do_validate(const mesh_packet *p, const mesh_lent *l) {
     return r;
 }
 
-static uint64_t place_after[3], counts_after[6];
+static uint64_t place_after[3], counts_after[MESH_COUNTS_NUMBERS];
+
+/* After a call that sets where the payload lies, and no other number, or is refused. */
+static void placed(uint8_t r, uint64_t *numbers, const mesh_packet *p) {
+    mesh_packet after = *p;
+    if (r == 0) {
+        memcpy(&after, numbers, NUMBERS);
+        const uint64_t place[3] = {after.body, after.start, after.len};
+        memcpy(place_after, place, sizeof place);
+        after = *p;
+        after.body = place[0];
+        after.start = place[1];
+        after.len = place[2];
+    }
+    left(numbers, &after);
+}
 
 static uint8_t do_seal(const mesh_packet *p, const mesh_lent *l, size_t out_len) {
     mesh_lent c = lend(l);
     uint8_t *key = copy(KEY, 16);
     uint8_t *out = room(out_len);
-    uint64_t *place = room(sizeof place_after);
-    uint8_t r = mesh_seal(MESH_PACKET_OF(p), key, MESH_LENT_OF(&c), out, out_len, place);
-    if (r) {
-        CHECK(untouched(place, sizeof place_after) && untouched(out, out_len));
+    uint64_t *numbers = numbers_of(p);
+    uint8_t r = mesh_seal(numbers, key, MESH_LENT_OF(&c), out, out_len);
+    placed(r, numbers, p);
+    if (r == 0 && place_after[0] == MESH_SEALED) {
+        CHECK(place_after[1] == 0 && place_after[2] <= out_len && untouched(out + place_after[2], out_len - place_after[2]));
+        memcpy(written, out, place_after[2]);
     } else {
-        memcpy(place_after, place, sizeof place_after);
-        if (place[0] == MESH_SEALED) {
-            CHECK(place[1] == 0 && place[2] <= out_len && untouched(out + place[2], out_len - place[2]));
-            memcpy(written, out, place[2]);
-        } else {
-            CHECK(untouched(out, out_len));
-        }
+        CHECK(untouched(out, out_len));
     }
     back(key, KEY, 16);
     free(out);
-    free(place);
     take_back(&c, l);
     return r;
 }
@@ -236,41 +263,38 @@ static uint8_t do_seal(const mesh_packet *p, const mesh_lent *l, size_t out_len)
 static uint8_t do_decrypt(const mesh_packet *p, const uint8_t *b, size_t n, const uint8_t *held, size_t work_len) {
     uint8_t *frame = copy(b, n), *key = copy(KEY, 16);
     uint8_t *work = held ? copy(held, work_len) : room(work_len);
-    uint64_t *counts = room(sizeof counts_after), *place = room(sizeof place_after);
-    uint8_t r = mesh_decrypt(MESH_PACKET_OF(p), key, frame, n, work, work_len, counts, place);
+    uint64_t *counts = room(sizeof counts_after), *numbers = numbers_of(p);
+    uint8_t r = mesh_decrypt(numbers, key, frame, n, work, work_len, counts);
+    placed(r, numbers, p);
     if (r) {
-        CHECK(untouched(counts, sizeof counts_after) && untouched(place, sizeof place_after));
-        CHECK(held ? memcmp(work, held, work_len) == 0 : untouched(work, work_len));
+        CHECK(untouched(counts, sizeof counts_after) && (held ? memcmp(work, held, work_len) == 0 : untouched(work, work_len)));
     } else {
         memcpy(counts_after, counts, sizeof counts_after);
-        memcpy(place_after, place, sizeof place_after);
-        if (place[0] == MESH_OPEN_IN_WORK) {
-            CHECK(place[1] == 0 && place[2] <= work_len && (held || untouched(work + place[2], work_len - place[2])));
-            memcpy(written, work, place[2]);
+        if (place_after[0] == MESH_OPEN_IN_WORK) {
+            const uint64_t len = place_after[2];
+            CHECK(place_after[1] == 0 && len <= work_len && (held || untouched(work + len, work_len - len)));
+            memcpy(written, work, len);
         }
     }
     back(frame, b, n);
     back(key, KEY, 16);
     free(work);
     free(counts);
-    free(place);
     return r;
 }
 
 static uint8_t do_decode(const mesh_packet *p, const uint8_t *b, size_t n, const uint8_t *w, size_t w_len) {
     uint8_t *frame = copy(b, n), *work = copy(w, w_len);
-    uint64_t *counts = room(sizeof counts_after), *place = room(sizeof place_after);
-    uint8_t r = mesh_decode(MESH_PACKET_OF(p), frame, n, work, w_len, counts, place);
-    if (r) {
-        CHECK(untouched(counts, sizeof counts_after) && untouched(place, sizeof place_after));
-    } else {
+    uint64_t *counts = room(sizeof counts_after), *numbers = numbers_of(p);
+    uint8_t r = mesh_decode(numbers, frame, n, work, w_len, counts);
+    placed(r, numbers, p);
+    if (r)
+        CHECK(untouched(counts, sizeof counts_after));
+    else
         memcpy(counts_after, counts, sizeof counts_after);
-        memcpy(place_after, place, sizeof place_after);
-    }
     back(frame, b, n);
     back(work, w, w_len);
     free(counts);
-    free(place);
     return r;
 }
 
@@ -286,7 +310,7 @@ static uint8_t do_hops(uint8_t *b, size_t n, uint8_t hop_count) {
     return r;
 }
 
-static uint64_t item_found[6];
+static uint64_t item_found[MESH_ITEM_NUMBERS];
 
 static uint8_t do_item(bool is_event, const uint8_t *b, size_t n, uint64_t place) {
     uint8_t *payload = copy(b, n);
@@ -302,7 +326,7 @@ static uint8_t do_item(bool is_event, const uint8_t *b, size_t n, uint64_t place
 }
 
 static bool found(uint64_t what, uint64_t kind, uint64_t tag, uint64_t start, uint64_t len, uint64_t next) {
-    const uint64_t item[6] = {what, kind, tag, start, len, next};
+    const uint64_t item[MESH_ITEM_NUMBERS] = {what, kind, tag, start, len, next};
     return memcmp(item, item_found, sizeof item) == 0;
 }
 
@@ -320,7 +344,7 @@ static uint8_t do_count(bool is_event, const uint8_t *b, size_t n) {
 }
 
 static bool counted(uint64_t kept, uint64_t skipped, uint64_t kept_bytes, uint64_t skipped_bytes, uint64_t cut_bytes, uint64_t clean) {
-    const uint64_t counts[6] = {kept, skipped, kept_bytes, skipped_bytes, cut_bytes, clean};
+    const uint64_t counts[MESH_COUNTS_NUMBERS] = {kept, skipped, kept_bytes, skipped_bytes, cut_bytes, clean};
     return memcmp(counts, counts_after, sizeof counts) == 0;
 }
 
@@ -347,15 +371,15 @@ static void reading(void) {
         CHECK(do_read(ANY, 0, b, 8192) == 0 && do_read(MESH, 0, b, 8192) == (i ? 0 : 3));
         for (size_t n = 1; n < 5; n++) CHECK(do_read(ANY, 0, b, n) == (i ? 2 : 0) && do_read(MESH, 0, b, n) == 2);
         if (i == 0) {
-            CHECK(numbers_read[0] == MESH_LORA && numbers_read[14] == 0 && numbers_read[15] == 4);
+            CHECK(read_as.kind == MESH_LORA && read_as.start == 0 && read_as.len == 4);
         } else {
             for (size_t n = 5; n < least[i]; n++) CHECK(do_read(ANY, 0, b, n) == 4 && do_read(MESH, 0, b, n) == 4);
-            CHECK(do_read(MESH, 0, b, least[i]) == 0 && numbers_read[0] == i - 1 && numbers_read[2] == 1 && numbers_read[15] == 0);
-            CHECK(do_read(ANY, 0, b, 8192) == 0 && numbers_read[14] == start[i] && numbers_read[15] == 8192 - least[i]);
+            CHECK(do_read(MESH, 0, b, least[i]) == 0 && read_as.kind == i - 1 && read_as.hop_count == 1 && read_as.len == 0);
+            CHECK(do_read(ANY, 0, b, 8192) == 0 && read_as.start == start[i] && read_as.len == 8192 - least[i]);
             const uint8_t kind = (uint8_t)(i - 1);
             for (size_t n = 0; n < least[i] - 5; n++) CHECK(do_read(BODY, kind, b, n) == 4);
             CHECK(do_read(BODY, kind, b, least[i] - 5) == 0 && do_read(BODY, kind, b, 8187) == 0);
-            CHECK(numbers_read[2] == 0 && numbers_read[3] == 0 && numbers_read[15] == 8192 - least[i]);
+            CHECK(read_as.hop_count == 0 && read_as.has_mic == 0 && read_as.len == 8192 - least[i]);
             CHECK(do_read(BODY, kind, b, 8188) == 5);
         }
         for (unsigned kind = 4; kind < 256; kind++) CHECK(do_read(BODY, (uint8_t)kind, b, kind % 2 ? 0 : 8188) == 29);
@@ -572,6 +596,96 @@ static void none(mesh_packet p, const mesh_lent *l) {
         }
 }
 
+/* Numbers that are wider than 32 bits. The first ones' low bits are good ones. */
+static const uint64_t WIDE[] = {1ull << 32, (1ull << 32) + 1, 1ull << 63, UINT64_MAX};
+
+/* That every call answers the same of two packets, and what it leaves is the same. */
+static void alike(const mesh_packet *p, const mesh_packet *q, const mesh_lent *l) {
+    const mesh_packet *const both[2] = {p, q};
+    uint8_t r[2][8];
+    uint64_t made[2] = {0, 0}, lengths[2] = {0, 0};
+    uint8_t bytes_of[2][99];
+    memset(bytes_of, 0, sizeof bytes_of);
+    for (size_t i = 0; i < 2; i++) {
+        r[i][0] = do_write(false, both[i], l, 99);
+        if (r[i][0] == 0) {
+            lengths[i] = written_length;
+            memcpy(bytes_of[i], written, written_length);
+        }
+        r[i][1] = do_write(true, both[i], l, 99);
+        r[i][2] = do_sign(both[i], l);
+        if (r[i][2] == 0) made[i] = mic_made;
+        r[i][3] = do_validate(both[i], l);
+        r[i][4] = do_seal(both[i], l, 99);
+        r[i][5] = do_decrypt(both[i], l->frame, l->frame_len, NULL, 99);
+        r[i][6] = do_decode(both[i], l->frame, l->frame_len, NULL, 0);
+        mesh_record_of known;
+        r[i][7] = mesh_packet_record(both[i], &known);
+    }
+    CHECK(memcmp(r[0], r[1], sizeof r[0]) == 0 && made[0] == made[1] && lengths[0] == lengths[1] && memcmp(bytes_of[0], bytes_of[1], 99) == 0);
+}
+
+/* A number that is wider than its field: refused with 29 before all else where nothing else refuses it, and otherwise as the field's largest. */
+static void widths(void) {
+    const mesh_lent l = mesh_lent_frame((const uint8_t *)"\1\2\3", 3);
+#define LARGEST(field, most)                                                                                                                 \
+    do {                                                                                                                                     \
+        mesh_packet q = p, w = p;                                                                                                            \
+        q.field = most;                                                                                                                      \
+        for (size_t k = 0; k < COUNT(WIDE); k++) {                                                                                           \
+            w.field = WIDE[k];                                                                                                               \
+            alike(&q, &w, &l);                                                                                                               \
+        }                                                                                                                                    \
+        w.field = (uint64_t)most + 1;                                                                                                        \
+        alike(&q, &w, &l);                                                                                                                   \
+    } while (0)
+    static const uint8_t hop_counts[] = {0, 1, 9};
+    for (uint8_t kind = MESH_UPLINK; kind <= MESH_LORA; kind++)
+        for (size_t i = 0; i < COUNT(hop_counts); i++) {
+            mesh_packet p = at(kind, kind == MESH_EVENT || kind == MESH_COMMAND ? MESH_SEALED : 0, 0, 3);
+            p.hop_count = hop_counts[i];
+            p.has_mic = i;
+            LARGEST(kind, UINT8_MAX);
+            LARGEST(payload_type, UINT8_MAX);
+            LARGEST(hop_count, UINT8_MAX);
+            LARGEST(uplink_id, UINT16_MAX);
+            LARGEST(dr, UINT8_MAX);
+            LARGEST(frequency, UINT32_MAX);
+            LARGEST(tx_power, UINT8_MAX);
+            LARGEST(delay, UINT8_MAX);
+            LARGEST(body, UINT8_MAX);
+            for (size_t k = 0; k <= COUNT(WIDE); k++) {
+                mesh_packet none_is[4] = {p, p, p, p};
+                none_is[0].mic = none_is[1].relay_id = none_is[2].timestamp = WIDE[k % COUNT(WIDE)];
+                none_is[3].channel = k < COUNT(WIDE) ? WIDE[k] : UINT8_MAX + 1;
+                for (size_t n = 0; n < 4; n++) {
+                    none(none_is[n], &l);
+                    CHECK(do_decrypt(&none_is[n], l.frame, 3, NULL, 0) == 29 && do_decode(&none_is[n], l.frame, 3, NULL, 0) == 29);
+                    mesh_record_of known = {7, 7, 7, 7};
+                    CHECK(mesh_packet_record(&none_is[n], &known) == 29 && known.type == 7 && known.relay_id == 7);
+                }
+            }
+            /* A number that is none but 0 is a MIC's: 2 as 1. */
+            mesh_packet q = p, w = p;
+            q.has_mic = 1;
+            for (size_t k = 0; k <= COUNT(WIDE); k++) {
+                w.has_mic = k < COUNT(WIDE) ? WIDE[k] : 2;
+                alike(&q, &w, &l);
+            }
+        }
+#undef LARGEST
+    mesh_packet p = good(MESH_UPLINK);
+    CHECK((p.dr = 300, do_write(false, &p, &NONE, 99)) == 9 && (p.uplink_id = 1ull << 16, do_write(false, &p, &NONE, 99)) == 8);
+    CHECK((p.hop_count = 300, do_write(false, &p, &NONE, 99)) == 7 && (p.relay_id = 1ull << 32, do_write(false, &p, &NONE, 99)) == 29);
+    p = good(MESH_DOWNLINK);
+    CHECK((p.frequency = 1ull << 32, do_write(false, &p, &NONE, 99)) == 17 && (p.delay = 257, do_write(false, &p, &NONE, 99)) == 16);
+    CHECK((p.tx_power = 256, do_write(false, &p, &NONE, 99)) == 15 && (p.payload_type = 256, do_write(false, &p, &NONE, 99)) == 29);
+    p = good(MESH_EVENT);
+    CHECK((p.body = 256, do_write(false, &p, &NONE, 99)) == 29 && (p.body = 0, p.kind = 256, do_write(false, &p, &NONE, 99)) == 29);
+    p = good(MESH_UPLINK);
+    CHECK((p.has_mic = 2, do_write(false, &p, &NONE, 99)) == 0 && written_length == 14 && (p.has_mic = 0, do_write(false, &p, &NONE, 99)) == 27);
+}
+
 static void codes(void) {
     const uint32_t spans[2][2] = {{301, 1}, {0, 256}};
     for (uint8_t kind = MESH_EVENT; kind <= MESH_COMMAND; kind++) {
@@ -600,8 +714,8 @@ static void codes(void) {
                 mesh_packet p = at(kind, (uint8_t)body, 1, len);
                 none(p, &l);
                 CHECK(do_decrypt(&p, value, 3, NULL, 0) == 29 && do_decode(&p, value, 3, NULL, 0) == 29);
-                uint64_t known[4] = {7, 7, 7, 7};
-                CHECK(mesh_record(MESH_PACKET_OF(&p), known) == 29 && known[0] == 7 && known[3] == 7);
+                mesh_record_of known = {7, 7, 7, 7};
+                CHECK(mesh_packet_record(&p, &known) == 29 && known.type == 7 && known.relay_id == 7);
             }
     }
     /* Of the others the body is not looked at. */
@@ -622,21 +736,19 @@ static void shared(void) {
     const mesh_lent l = {b + 4, 26, b + 10, 30, kinds, 2, spans, 2, NULL, 0, NULL, 0, NULL, 0};
     mesh_packet p = at(MESH_EVENT, MESH_ITEMS, 0, 2);
     uint8_t out[23], sealed[10], apart[10];
-    uint64_t length, place[3];
-    uint32_t mic, other;
+    uint64_t length;
+    mesh_counts counts;
     CHECK(mesh_packet_write(&p, &l, out, sizeof out, &length) == 0 && memcmp(out + 9, "\1\3\12\13\14\2\3\13\14\15", 10) == 0);
-    CHECK(mesh_sign(MESH_PACKET_OF(&p), b + 8, MESH_LENT_OF(&l), &mic) == 0);
-    CHECK(mesh_seal(MESH_PACKET_OF(&p), b + 8, MESH_LENT_OF(&l), sealed, 10, place) == 0);
+    mesh_packet q = p;
     uint8_t *key = copy(b + 8, 16);
-    CHECK(mesh_sign(MESH_PACKET_OF(&p), key, MESH_LENT_OF(&l), &other) == 0 && mic == other);
-    CHECK(mesh_seal(MESH_PACKET_OF(&p), key, MESH_LENT_OF(&l), apart, 10, place) == 0 && memcmp(sealed, apart, 10) == 0);
+    CHECK(mesh_packet_sign(&p, b + 8, &l) == 0 && mesh_packet_sign(&q, key, &l) == 0 && p.mic == q.mic);
+    CHECK(mesh_packet_seal(&p, b + 8, &l, sealed, 10) == 0 && mesh_packet_seal(&q, key, &l, apart, 10) == 0 && memcmp(sealed, apart, 10) == 0);
     uint8_t tag[16], again[16];
     mesh_cmac(b + 8, b, 40, tag);
     mesh_cmac(key, b, 40, again);
     CHECK(memcmp(tag, again, 16) == 0);
-    uint64_t counts[6];
     p = at(MESH_EVENT, MESH_SEALED, 2, 5);
-    CHECK(mesh_decode(MESH_PACKET_OF(&p), b + 4, 26, b + 10, 30, counts, place) == 0 && counts[4] == 5);
+    CHECK(mesh_packet_decode(&p, b + 4, 26, b + 10, 30, &counts) == 0 && counts.cut_bytes == 5);
     free(key);
     free(b);
 }
@@ -710,7 +822,7 @@ static void sealing(void) {
         p.has_mic = false;
         CHECK(do_seal(&p, &l, 8178) == 21 && do_decrypt(&p, b, 8200, NULL, 8178) == 21);
         CHECK(do_decode(&p, b, 8200, b, 0) == 0 && place_after[0] == MESH_OPEN_IN_FRAME && place_after[1] == 1);
-        uint64_t counts[6];
+        uint64_t counts[MESH_COUNTS_NUMBERS];
         memcpy(counts, counts_after, sizeof counts);
         CHECK(do_seal(&p, &l, 8179) == 0 && place_after[0] == MESH_SEALED && place_after[2] == 8179);
         memcpy(sealed, written, sizeof sealed);
@@ -780,7 +892,7 @@ static void items(void) {
 /* The loops as mesh.h's comments have them (tools/bindings looks). */
 
 static void walked(bool is_event, const uint8_t *payload, size_t n) {
-    uint64_t at = 0, item[6];
+    uint64_t at = 0, item[MESH_ITEM_NUMBERS];
     while (mesh_item(is_event, payload, n, at, item) == 0 && item[0] != MESH_END) at = item[5];
     CHECK(at == n);
 }
@@ -839,7 +951,7 @@ static void walk(uint8_t kind, const uint8_t *from, size_t n) {
     memcpy(first, written, kept_bytes);
     CHECK(do_seal(&again, &l, kept_bytes) == 0 && place_after[2] == kept_bytes && memcmp(first, written, kept_bytes) == 0);
     CHECK(do_sign(&open, &l) == 0);
-    const uint32_t mic = mic_made;
+    const uint64_t mic = mic_made;
     CHECK(do_sign(&again, &l) == 0 && mic_made == mic);
     free(first);
     back(payload, from, n);
@@ -1135,6 +1247,7 @@ static void nulls(void) {
 
         mesh_items it = mesh_items_begin(true, NULL, n);
         CHECK(it.refused == 45 && !mesh_items_next(&it) && it.refused == 45 && it.found == MESH_END);
+        CHECK(mesh_items_count(true, NULL, n, &c) == 45 && mesh_items_count(false, NULL, n, &c) == 45 && untouched(&c, sizeof c));
         CHECK(mesh_path_entries_read(NULL, n, list, 2, &length) == 45 && mesh_path_entries_read(value, 6, NULL, n, &length) == 45);
         CHECK(mesh_path_entry_read(NULL, n, 0, list) == 45 && untouched(list, sizeof list));
         CHECK(mesh_path_entries_write(NULL, n, out, 99, &length) == 45 && mesh_path_entries_write(list, 1, NULL, n, &length) == 45);
@@ -1155,6 +1268,7 @@ static void nulls(void) {
     CHECK(mesh_packet_write(&p, &NONE, NULL, 0, &length) == 0 && length == 0);
     mesh_items it = mesh_items_begin(true, NULL, 0);
     CHECK(!mesh_items_next(&it) && it.refused == 0);
+    CHECK(mesh_items_count(true, NULL, 0, &c) == 0 && c.kept == 0 && c.clean == 1);
     CHECK(mesh_path_entries_read(NULL, 0, NULL, 0, &length) == 0 && length == 0 && mesh_path_entries_read(value, 6, NULL, 0, &length) == 21);
     CHECK(mesh_path_entry_read(NULL, 0, 0, list) == 45);
     CHECK(mesh_path_entries_write(NULL, 0, NULL, 0, &length) == 0 && length == 0);
@@ -1310,10 +1424,10 @@ static void cipher(void) {
     static const uint8_t clear[16] = {0x00, 0x11, 0x22, 0x33, 0x44, 0x55, 0x66, 0x77, 0x88, 0x99, 0xaa, 0xbb, 0xcc, 0xdd, 0xee, 0xff};
     static const uint8_t made[16] = {0x69, 0xc4, 0xe0, 0xd8, 0x6a, 0x7b, 0x04, 0x30, 0xd8, 0xcd, 0xb7, 0x80, 0x70, 0xb4, 0xc5, 0x5a};
     uint8_t *key = copy(KEY, 16), *a = copy(clear, 16), *b = copy(clear, 16);
-    uint32_t *words = room(300 * sizeof *words);
+    uint32_t *words = room(MESH_CIPHER_WORDS * sizeof *words);
     mesh_encrypt_block(key, a);
     mesh_prepare(key, words);
-    uint32_t *before = copy(words, 300 * sizeof *words);
+    uint32_t *before = copy(words, MESH_CIPHER_WORDS * sizeof *words);
     mesh_encipher(words, b);
     CHECK(memcmp(a, made, 16) == 0 && memcmp(b, made, 16) == 0);
     memset(a, 0, 16);
@@ -1333,7 +1447,7 @@ static void cipher(void) {
         back(same, message, n);
         free(message);
     }
-    back(words, before, 300 * sizeof *words);
+    back(words, before, MESH_CIPHER_WORDS * sizeof *words);
     back(key, KEY, 16);
     free(before);
     free(a);
@@ -1341,11 +1455,11 @@ static void cipher(void) {
     free(signing);
     free(encryption);
     /* Words that no key makes are a cipher too, if no good one. */
-    words = room(300 * sizeof *words);
+    words = room(MESH_CIPHER_WORDS * sizeof *words);
     b = room(16);
     mesh_encipher(words, b);
     mesh_mac(words, clear, 16, b);
-    CHECK(untouched(words, 300 * sizeof *words));
+    CHECK(untouched(words, MESH_CIPHER_WORDS * sizeof *words));
     free(words);
     free(b);
     /* RFC 4493, examples 1 and 2. */
@@ -1363,21 +1477,25 @@ static void cipher(void) {
 /* ---- duplicates */
 
 static uint8_t do_record(const mesh_packet *p, uint64_t id, uint64_t timestamp) {
-    uint64_t *known = room(4 * sizeof *known);
-    uint8_t r = mesh_record(MESH_PACKET_OF(p), known);
+    mesh_record_of *known = room(sizeof *known);
+    uint64_t *numbers = numbers_of(p);
+    uint8_t r = mesh_record(numbers, (uint64_t *)known);
     if (r)
-        CHECK(untouched(known, 4 * sizeof *known));
+        CHECK(untouched(known, sizeof *known));
     else
-        CHECK(known[0] == p->payload_type && known[1] == id && known[2] == timestamp && known[3] == p->relay_id);
+        CHECK(known->type == p->payload_type && known->uplink_id == id && known->timestamp == timestamp && known->relay_id == p->relay_id);
+    left(numbers, p);
     free(known);
     return r;
 }
 
 /* 0 and 1 of a record that is seen and new, or the number. */
-static unsigned add(uint32_t *held, uint8_t type, uint32_t relay_id) {
+static unsigned add_record(uint32_t *held, const mesh_record_of *known) {
     uint32_t *words = copy(held, sizeof(mesh_cache));
+    uint64_t *record = copy(known, sizeof *known);
     uint8_t *is_new = room(1);
-    const uint8_t r = mesh_cache_add(words, type, 1, 2, relay_id, is_new);
+    const uint8_t r = mesh_cache_add(words, record, is_new);
+    back(record, known, sizeof *known);
     CHECK(r ? *is_new == BEFORE : *is_new < 2);
     CHECK((r == 0 && *is_new == 1) || memcmp(words, held, sizeof(mesh_cache)) == 0);
     const unsigned answer = r ? r : *is_new;
@@ -1385,6 +1503,11 @@ static unsigned add(uint32_t *held, uint8_t type, uint32_t relay_id) {
     free(words);
     free(is_new);
     return answer;
+}
+
+static unsigned add(uint32_t *held, uint8_t type, uint32_t relay_id) {
+    const mesh_record_of known = {type, 1, 2, relay_id};
+    return add_record(held, &known);
 }
 
 static void caches(void) {
@@ -1413,6 +1536,14 @@ static void caches(void) {
                 CHECK(add(words, 0, id < size ? 0 : id - size + 1) == 0);
             }
             CHECK(add(words, 0, 2 * size - 1) == 1);
+            /* A number that is wider than its field is 29. */
+            for (size_t k = 0; k < COUNT(WIDE); k++) {
+                const mesh_record_of known[] = {
+                    {WIDE[k], 1, 2, 3}, {0, WIDE[k], 2, 3}, {0, 1, WIDE[k], 3}, {0, 1, 2, WIDE[k]}, {UINT8_MAX + 1, 1, 2, 3}, {0, UINT16_MAX + 1, 2, 3}};
+                for (size_t n = 0; n < COUNT(known); n++) CHECK(add_record(words, &known[n]) == 29);
+            }
+            const mesh_record_of largest = {3, UINT16_MAX, UINT32_MAX, UINT32_MAX};
+            CHECK(add_record(words, &largest) == 1 && add_record(words, &largest) == 0);
         }
         free(words);
     }
@@ -1477,10 +1608,12 @@ static void dumps(void) {
 }
 
 int main(void) {
+    if (mesh_version() != MESH_VERSION) return 1;
     reading();
     writing();
     composing();
     codes();
+    widths();
     shared();
     hops();
     validated();

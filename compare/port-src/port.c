@@ -150,7 +150,7 @@ static void put_hex(const uint8_t *b, size_t n) {
 }
 
 /* a relay id or a MIC */
-static void put_four(uint32_t n) {
+static void put_four(uint64_t n) {
     const uint8_t b[4] = {(uint8_t)(n >> 24), (uint8_t)(n >> 16), (uint8_t)(n >> 8), (uint8_t)n};
     put_digits(b, 4);
 }
@@ -763,11 +763,9 @@ static uint8_t do_items(void) {
     span s = hex();
     if (!whole()) return 0;
     slice b = bytes_of(s);
-    uint64_t numbers[6] = {0};
     mesh_counts c;
-    uint8_t r = mesh_count(is_event, b.at, b.n, numbers);
+    uint8_t r = mesh_items_count(is_event, b.at, b.n, &c);
     if (r) return r;
-    mesh_counts_from(&c, numbers);
     put_counts(&c);
     mesh_items it = mesh_items_begin(is_event, b.at, b.n);
     while (mesh_items_next(&it)) {
@@ -839,9 +837,9 @@ static uint8_t do_upmeta(void) {
     sized(word(), b, 5);
     if (!whole()) return 0;
     mesh_uplink_metadata_read(b, n, &p.rssi, &p.snr);
-    p.uplink_id = (uint16_t)n[0];
-    p.dr = (uint8_t)n[1];
-    p.channel = (uint8_t)n[2];
+    p.uplink_id = n[0];
+    p.dr = n[1];
+    p.channel = n[2];
     put_up_meta(&p);
     return 0;
 }
@@ -850,7 +848,7 @@ static uint8_t do_upmetaw(void) {
     uint8_t b[5];
     mesh_packet p = up_meta(NOTHING);
     if (!whole()) return 0;
-    uint8_t r = mesh_uplink_metadata_write(p.uplink_id, p.dr, p.rssi, p.snr, p.channel, b);
+    uint8_t r = mesh_uplink_metadata_write((uint16_t)p.uplink_id, (uint8_t)p.dr, p.rssi, p.snr, (uint8_t)p.channel, b);
     if (r == 0) put_hex(b, 5);
     return r;
 }
@@ -862,11 +860,11 @@ static uint8_t do_downmeta(void) {
     sized(word(), b, 6);
     if (!whole()) return 0;
     mesh_downlink_metadata_read(b, n);
-    p.uplink_id = (uint16_t)n[0];
-    p.dr = (uint8_t)n[1];
-    p.frequency = (uint32_t)n[2];
-    p.tx_power = (uint8_t)n[3];
-    p.delay = (uint8_t)n[4];
+    p.uplink_id = n[0];
+    p.dr = n[1];
+    p.frequency = n[2];
+    p.tx_power = n[3];
+    p.delay = n[4];
     put_down_meta(&p);
     return 0;
 }
@@ -875,7 +873,7 @@ static uint8_t do_downmetaw(void) {
     uint8_t b[6];
     mesh_packet p = down_meta(NOTHING);
     if (!whole()) return 0;
-    uint8_t r = mesh_downlink_metadata_write(p.uplink_id, p.dr, p.frequency, p.tx_power, p.delay, b);
+    uint8_t r = mesh_downlink_metadata_write((uint16_t)p.uplink_id, (uint8_t)p.dr, (uint32_t)p.frequency, (uint8_t)p.tx_power, (uint8_t)p.delay, b);
     if (r == 0) put_hex(b, 6);
     return r;
 }

@@ -1,2 +1,2 @@
-# mesh.h: every opening is said to be clean
-s/c->clean = n\[5\] != 0;/c->clean = true;/
+# port.c: every opening is said to be clean
+s/put(c->clean ? "clean" : "unclean");/put("clean");/

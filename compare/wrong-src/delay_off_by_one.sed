@@ -1,2 +1,2 @@
 # port.c: a downlink is written with the delay less one
-s/p.tx_power, p.delay, b)/p.tx_power, (uint8_t)(p.delay - 1), b)/
+s/(uint8_t)p.tx_power, (uint8_t)p.delay, b)/(uint8_t)p.tx_power, (uint8_t)(p.delay - 1), b)/

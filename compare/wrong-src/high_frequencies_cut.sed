@@ -1,2 +1,2 @@
 # mesh.h: the frequency of a packet that was read has 31 bits
-s/p->frequency = (uint32_t)n\[9\];/p->frequency = (uint32_t)n[9] \& 0x7fffffff;/
+s/^    return mesh_read(\(.*\));$/    uint8_t r = mesh_read(\1); if (r == 0) p->frequency \&= 0x7fffffff; return r;/

@@ -1,2 +1,2 @@
 # mesh.h: a mesh frame of 8,192 bytes is refused
-s/^    uint8_t r = mesh_read_mesh(\(.*\));$/    uint8_t r = n == MESH_FRAME_MOST ? MESH_FRAME_LONG : mesh_read_mesh(\1);/
+s/^    return mesh_read_mesh(\(.*\));$/    return n == MESH_FRAME_MOST ? MESH_FRAME_LONG : mesh_read_mesh(\1);/

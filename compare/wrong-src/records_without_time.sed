@@ -1,2 +1,2 @@
 # mesh.h: the timestamp is left out of records
-s/known->timestamp = (uint32_t)n\[2\];/known->timestamp = 0;/
+s/^    return mesh_record(\(.*\));$/    uint8_t r = mesh_record(\1); if (r == 0) known->timestamp = 0; return r;/

@@ -11,9 +11,13 @@ pub fn uplinks(ups: &[Up]) {
         let (ours, theirs) = (port::read(frame), mesh(Packet::from_slice(frame).unwrap()));
         let Payload::Uplink(body) = &theirs.payload else { panic!("no uplink") };
         let meta = &body.metadata;
-        assert!((ours.kind, ours.payload_type, ours.hop_count) == (0, 0, theirs.mhdr.hop_count));
-        assert!(ours.has_mic && Some(ours.mic.to_be_bytes()) == theirs.mic && ours.relay_id.to_be_bytes() == body.relay_id);
-        assert!((ours.uplink_id, ours.dr, ours.channel) == (meta.uplink_id, meta.dr, meta.channel));
+        assert!((ours.kind, ours.payload_type, ours.hop_count) == (0, 0, theirs.mhdr.hop_count.into()));
+        assert!(
+            ours.has_mic == 1
+                && Some((ours.mic as u32).to_be_bytes()) == theirs.mic
+                && (ours.relay_id as u32).to_be_bytes() == body.relay_id
+        );
+        assert!((ours.uplink_id, ours.dr, ours.channel) == (meta.uplink_id.into(), meta.dr.into(), meta.channel.into()));
         assert!((ours.rssi, ours.snr) == (meta.rssi, meta.snr));
         assert!(frame[ours.start as usize..][..ours.len as usize] == body.phy_payload[..]);
 
@@ -98,7 +102,7 @@ pub fn caches(size: u32) {
     let mut theirs = cache::Cache::new(size as usize);
     let mut add = |kind: PayloadType, id: u16, timestamp: u32| {
         let made = cache::record(kind, id, timestamp, [10, 11, 12, 13]);
-        let (a, b) = (ours.add(kind.to_byte(), id, timestamp, 0x0a0b0c0d), theirs.add(made));
+        let (a, b) = (ours.add(&[kind.to_byte().into(), id.into(), timestamp.into(), 0x0a0b0c0d]), theirs.add(made));
         assert!(a == b, "a cache of {size}: {kind:?} {id} {timestamp}");
         a
     };

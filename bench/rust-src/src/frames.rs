@@ -132,9 +132,9 @@ pub fn events(length: usize) -> Vec<Told> {
             let composed = port::Packet {
                 kind: 2,
                 payload_type: 2,
-                hop_count,
-                relay_id,
-                timestamp,
+                hop_count: hop_count.into(),
+                relay_id: relay_id.into(),
+                timestamp: timestamp.into(),
                 body: 4,
                 start: 0,
                 len: kinds.len() as u64,

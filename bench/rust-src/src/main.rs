@@ -64,7 +64,7 @@ fn of_uplinks(length: usize, rows: &mut Vec<Row>) {
         "read",
         both(calls(|i| port::read_into(black_box(&mut packet), &pick(i).frame)), calls(|i| Packet::from_slice(&pick(i).frame).unwrap())),
     );
-    let (mut numbers, mut rssi, mut snr) = ([0; 16], 0, 0);
+    let (mut numbers, mut rssi, mut snr) = ([0; sys::MESH_PACKET_NUMBERS], 0, 0);
     row(
         "read, into numbers",
         both(
@@ -209,7 +209,7 @@ fn of_caches(size: u32, rows: &mut Vec<Row>) {
         both(
             calls(|_| {
                 a += 1;
-                let is_new = ours.add(0, black_box(a) as u16 & 4095, 0, black_box(0x0a0b0c0d));
+                let is_new = ours.add(&[0, u64::from(black_box(a)) & 4095, 0, black_box(0x0a0b0c0d)]);
                 assert!(is_new);
             }),
             calls(|_| {
@@ -224,7 +224,7 @@ fn of_caches(size: u32, rows: &mut Vec<Row>) {
     let full = || {
         let (mut ours, mut theirs) = (port::Cache::new(size), cache::Cache::new(size as usize));
         for id in 1..=size {
-            assert!(ours.add(0, id as u16, 0, 0x0a0b0c0d) && theirs.add(uplink(id)));
+            assert!(ours.add(&[0, id.into(), 0, 0x0a0b0c0d]) && theirs.add(uplink(id)));
         }
         (ours, theirs)
     };
@@ -234,7 +234,7 @@ fn of_caches(size: u32, rows: &mut Vec<Row>) {
             what,
             both(
                 calls(|_| {
-                    let is_new = ours.add(0, black_box(id) as u16, 0, black_box(0x0a0b0c0d));
+                    let is_new = ours.add(&[0, black_box(id).into(), 0, black_box(0x0a0b0c0d)]);
                     assert!(!is_new);
                 }),
                 calls(|_| {
@@ -252,7 +252,7 @@ fn of_caches(size: u32, rows: &mut Vec<Row>) {
         both(
             calls(|_| {
                 a += 1;
-                let is_new = ours.add(2, 0, black_box(a), black_box(0x0a0b0c0d));
+                let is_new = ours.add(&[2, 0, black_box(a).into(), black_box(0x0a0b0c0d)]);
                 assert!(is_new);
             }),
             calls(|_| {
@@ -281,8 +281,7 @@ fn of_caches(size: u32, rows: &mut Vec<Row>) {
         both(
             calls(|_| {
                 a += 1;
-                let known = port::record(black_box(&packets[a & 127]));
-                let is_new = ours.add(known[0] as u8, known[1] as u16, known[2] as u32, known[3] as u32);
+                let is_new = ours.add(&port::record(black_box(&packets[a & 127])));
                 assert!(is_new);
             }),
             calls(|_| {

@@ -1,30 +1,46 @@
-//! The library as C has it: a packet as a struct, made and taken apart as include/mesh.h does.
+//! The library as C has it: a packet as include/mesh.h's struct, which is its array under names.
 use crate::sys;
-use std::mem::MaybeUninit;
+use crate::sys::{MESH_CACHE_WORDS, MESH_COUNTS_NUMBERS, MESH_ITEM_NUMBERS, MESH_PACKET_NUMBERS, MESH_RECORD_NUMBERS};
 
 pub const FRAME_MOST: usize = 8192;
+
+pub type Numbers = [u64; MESH_PACKET_NUMBERS];
+pub type Known = [u64; MESH_RECORD_NUMBERS];
 
 #[derive(Clone, Debug, Default, PartialEq, Eq)]
 #[repr(C)]
 pub struct Packet {
-    pub kind: u8,
-    pub payload_type: u8,
-    pub hop_count: u8,
-    pub has_mic: bool,
-    pub mic: u32,
-    pub relay_id: u32,
-    pub uplink_id: u16,
-    pub dr: u8,
-    pub rssi: i16,
-    pub snr: i8,
-    pub channel: u8,
-    pub frequency: u32,
-    pub tx_power: u8,
-    pub delay: u8,
-    pub timestamp: u32,
-    pub body: u8,
+    pub kind: u64,
+    pub payload_type: u64,
+    pub hop_count: u64,
+    pub has_mic: u64,
+    pub mic: u64,
+    pub relay_id: u64,
+    pub uplink_id: u64,
+    pub dr: u64,
+    pub channel: u64,
+    pub frequency: u64,
+    pub tx_power: u64,
+    pub delay: u64,
+    pub timestamp: u64,
+    pub body: u64,
     pub start: u64,
     pub len: u64,
+    pub rssi: i16,
+    pub snr: i8,
+}
+
+// as the header's static assertions
+const _: () = assert!(std::mem::offset_of!(Packet, len) == 8 * (MESH_PACKET_NUMBERS - 1));
+
+impl Packet {
+    fn numbers(&self) -> *const Numbers {
+        std::ptr::from_ref(self).cast()
+    }
+
+    fn numbers_mut(&mut self) -> *mut Numbers {
+        std::ptr::from_mut(self).cast()
+    }
 }
 
 #[derive(Clone, Copy, Default)]
@@ -44,24 +60,15 @@ impl<'a> Lent<'a> {
     }
 }
 
-macro_rules! of_packet {
-    ($f:ident, $p:expr, $($more:expr),*) => {
+macro_rules! of_lent {
+    ($f:ident, ($($before:expr),*), $l:expr $(, $more:expr)*) => {
         unsafe {
             sys::$f(
-                $p.kind, $p.payload_type, $p.hop_count, $p.has_mic, $p.mic, $p.relay_id, $p.uplink_id, $p.dr, $p.rssi, $p.snr, $p.channel,
-                $p.frequency, $p.tx_power, $p.delay, $p.timestamp, $p.body, $p.start, $p.len, $($more),*
+                $($before,)*
+                $l.frame.as_ptr(), $l.frame.len(), $l.work.as_ptr(), $l.work.len(), $l.kinds.as_ptr(), $l.kinds.len(), $l.spans.as_ptr(),
+                $l.spans.len(), $l.ids.as_ptr(), $l.ids.len(), $l.rssis.as_ptr(), $l.rssis.len(), $l.snrs.as_ptr(), $l.snrs.len() $(, $more)*
             )
         }
-    };
-}
-
-macro_rules! of_lent {
-    ($f:ident, $p:expr, ($($key:expr)?), $l:expr, $($more:expr),*) => {
-        of_packet!(
-            $f, $p, $($key,)?
-            $l.frame.as_ptr(), $l.frame.len(), $l.work.as_ptr(), $l.work.len(), $l.kinds.as_ptr(), $l.kinds.len(), $l.spans.as_ptr(),
-            $l.spans.len(), $l.ids.as_ptr(), $l.ids.len(), $l.rssis.as_ptr(), $l.rssis.len(), $l.snrs.as_ptr(), $l.snrs.len(), $($more),*
-        )
     };
 }
 
@@ -73,30 +80,8 @@ fn held(refused: u8) {
 /// As the header's `mesh_packet_read`: into a packet of the caller's, which here must be taken.
 #[inline]
 pub fn read_into(p: &mut Packet, frame: &[u8]) {
-    let mut n = MaybeUninit::<[u64; 16]>::uninit();
-    let mut rssi = MaybeUninit::uninit();
-    let mut snr = MaybeUninit::uninit();
-    held(unsafe { sys::mesh_read(frame.as_ptr(), frame.len(), n.as_mut_ptr(), rssi.as_mut_ptr(), snr.as_mut_ptr()) });
-    // it was taken, so all three were written
-    let (n, rssi, snr) = unsafe { (n.assume_init_ref(), rssi.assume_init(), snr.assume_init()) };
-    p.kind = n[0] as u8;
-    p.payload_type = n[1] as u8;
-    p.hop_count = n[2] as u8;
-    p.has_mic = n[3] != 0;
-    p.mic = n[4] as u32;
-    p.relay_id = n[5] as u32;
-    p.uplink_id = n[6] as u16;
-    p.dr = n[7] as u8;
-    p.rssi = rssi;
-    p.snr = snr;
-    p.channel = n[8] as u8;
-    p.frequency = n[9] as u32;
-    p.tx_power = n[10] as u8;
-    p.delay = n[11] as u8;
-    p.timestamp = n[12] as u32;
-    p.body = n[13] as u8;
-    p.start = n[14];
-    p.len = n[15];
+    let (rssi, snr) = (&raw mut p.rssi, &raw mut p.snr);
+    held(unsafe { sys::mesh_read(frame.as_ptr(), frame.len(), p.numbers_mut(), rssi, snr) });
 }
 
 pub fn read(frame: &[u8]) -> Packet {
@@ -106,19 +91,19 @@ pub fn read(frame: &[u8]) -> Packet {
 }
 
 /// The sixteen numbers alone, and rssi and snr.
-pub fn read_numbers(frame: &[u8], n: &mut [u64; 16], rssi: &mut i16, snr: &mut i8) {
+pub fn read_numbers(frame: &[u8], n: &mut Numbers, rssi: &mut i16, snr: &mut i8) {
     held(unsafe { sys::mesh_read(frame.as_ptr(), frame.len(), n, rssi, snr) });
 }
 
 pub fn write(p: &Packet, l: &Lent, out: &mut [u8]) -> usize {
     let mut length = 0;
-    held(of_lent!(mesh_write, p, (), l, out.as_mut_ptr(), out.len(), &mut length));
+    held(of_lent!(mesh_write, (p.numbers(), p.rssi, p.snr), l, out.as_mut_ptr(), out.len(), &mut length));
     length as usize
 }
 
 pub fn validate(p: &Packet, key: &[u8; 16], l: &Lent) -> bool {
     let mut valid = 0;
-    held(of_lent!(mesh_validate, p, (key), l, &mut valid));
+    held(of_lent!(mesh_validate, (p.numbers(), p.rssi, p.snr, key), l, &mut valid));
     valid != 0
 }
 
@@ -126,46 +111,47 @@ pub fn set_hop_count(key: &[u8; 16], frame: &mut [u8], hop_count: u8) {
     held(unsafe { sys::mesh_set_hop_count(key, frame.as_mut_ptr(), frame.len(), hop_count) });
 }
 
-/// Where the sealed payload lies in `out`.
+/// Body, start and len of the sealed payload in `out`. On a copy: the packet is sealed again in the next turn.
 pub fn seal(p: &Packet, key: &[u8; 16], l: &Lent, out: &mut [u8]) -> [u64; 3] {
-    let mut place = [0; 3];
-    held(of_lent!(mesh_seal, p, (key), l, out.as_mut_ptr(), out.len(), &mut place));
-    place
+    let mut p = p.clone();
+    held(of_lent!(mesh_seal, (p.numbers_mut(), key), l, out.as_mut_ptr(), out.len()));
+    [p.body, p.start, p.len]
 }
 
-/// The counts of items and bytes, and where the clear payload lies in `work`.
-pub fn decrypt(p: &Packet, key: &[u8; 16], frame: &[u8], work: &mut [u8]) -> ([u64; 6], [u64; 3]) {
-    let (mut counts, mut place) = ([0; 6], [0; 3]);
-    held(of_packet!(mesh_decrypt, p, key, frame.as_ptr(), frame.len(), work.as_mut_ptr(), work.len(), &mut counts, &mut place));
-    (counts, place)
+/// The counts of items and bytes, and body, start and len of the clear payload in `work`; on a copy.
+pub fn decrypt(p: &Packet, key: &[u8; 16], frame: &[u8], work: &mut [u8]) -> ([u64; MESH_COUNTS_NUMBERS], [u64; 3]) {
+    let (mut p, mut counts) = (p.clone(), [0; MESH_COUNTS_NUMBERS]);
+    let (from, n) = (frame.as_ptr(), frame.len());
+    held(unsafe { sys::mesh_decrypt(p.numbers_mut(), key, from, n, work.as_mut_ptr(), work.len(), &mut counts) });
+    (counts, [p.body, p.start, p.len])
 }
 
 /// What stands at a place of an event's clear payload: found, kind, tag, place and length of the value, and the place behind it.
-pub fn item(payload: &[u8], at: u64) -> [u64; 6] {
-    let mut item = [0; 6];
+pub fn item(payload: &[u8], at: u64) -> [u64; MESH_ITEM_NUMBERS] {
+    let mut item = [0; MESH_ITEM_NUMBERS];
     held(unsafe { sys::mesh_item(true, payload.as_ptr(), payload.len(), at, &mut item) });
     item
 }
 
 /// Type, uplink id, timestamp and relay id.
-pub fn record(p: &Packet) -> [u64; 4] {
-    let mut known = [0; 4];
-    held(of_packet!(mesh_record, p, &mut known));
+pub fn record(p: &Packet) -> Known {
+    let mut known = [0; MESH_RECORD_NUMBERS];
+    held(unsafe { sys::mesh_record(p.numbers(), &mut known) });
     known
 }
 
-pub struct Cache(pub [u32; 195]);
+pub struct Cache(pub [u32; MESH_CACHE_WORDS]);
 
 impl Cache {
     pub fn new(size: u32) -> Self {
-        let mut words = [0; 195];
+        let mut words = [0; MESH_CACHE_WORDS];
         held(unsafe { sys::mesh_cache_clear(&mut words, size) });
         Cache(words)
     }
 
-    pub fn add(&mut self, type_: u8, uplink_id: u16, timestamp: u32, relay_id: u32) -> bool {
+    pub fn add(&mut self, known: &Known) -> bool {
         let mut is_new = 0;
-        held(unsafe { sys::mesh_cache_add(&mut self.0, type_, uplink_id, timestamp, relay_id, &mut is_new) });
+        held(unsafe { sys::mesh_cache_add(&mut self.0, known, &mut is_new) });
         is_new != 0
     }
 }

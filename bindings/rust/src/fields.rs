@@ -2,6 +2,7 @@
 use std::fmt;
 
 use crate::raw;
+use crate::sys::{MESH_COMMAND, MESH_DOWNLINK, MESH_EVENT, MESH_UPLINK};
 use crate::Refusal;
 
 /// A relay's id. Two ids are the same where all four bytes are; the text has eight digits in lower case.
@@ -43,13 +44,13 @@ impl fmt::Debug for RelayId {
 #[repr(u8)]
 pub enum PayloadType {
     /// A LoRa frame on its way to the border gateway.
-    Uplink = 0,
+    Uplink = MESH_UPLINK,
     /// A LoRa frame on its way to a relay.
-    Downlink = 1,
+    Downlink = MESH_DOWNLINK,
     /// What relays tell.
-    Event = 2,
+    Event = MESH_EVENT,
     /// What relays are told.
-    Command = 3,
+    Command = MESH_COMMAND,
 }
 
 impl PayloadType {
@@ -57,9 +58,9 @@ impl PayloadType {
     pub fn from_byte(b: u8) -> Result<Self, Refusal> {
         raw::payload_type(b)?;
         Ok(match b {
-            0 => PayloadType::Uplink,
-            1 => PayloadType::Downlink,
-            2 => PayloadType::Event,
+            MESH_UPLINK => PayloadType::Uplink,
+            MESH_DOWNLINK => PayloadType::Downlink,
+            MESH_EVENT => PayloadType::Event,
             _ => PayloadType::Command,
         })
     }

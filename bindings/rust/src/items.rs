@@ -1,7 +1,7 @@
 //! The items of events and commands, read and composed, and heartbeats.
 use crate::fields::RelayPath;
 use crate::raw;
-use crate::raw::{At, Lent};
+use crate::raw::{At, Counts, Lent};
 use crate::sys::{MESH_CUT, MESH_ITEM_HEARTBEAT, MESH_ITEM_PATH, MESH_ITEM_PROPRIETARY, MESH_KEPT, MESH_SKIPPED};
 use crate::Refusal;
 use crate::{part, PATH_MOST};
@@ -24,14 +24,14 @@ pub struct Opening {
 }
 
 impl Opening {
-    pub(crate) fn of([kept, skipped, kept_bytes, skipped_bytes, cut_bytes, clean]: [u64; 6]) -> Self {
+    pub(crate) fn of(c: Counts) -> Self {
         Opening {
-            kept: kept as usize,
-            skipped: skipped as usize,
-            kept_bytes: kept_bytes as usize,
-            skipped_bytes: skipped_bytes as usize,
-            cut_bytes: cut_bytes as usize,
-            clean: clean != 0,
+            kept: c.kept as usize,
+            skipped: c.skipped as usize,
+            kept_bytes: c.kept_bytes as usize,
+            skipped_bytes: c.skipped_bytes as usize,
+            cut_bytes: c.cut_bytes as usize,
+            clean: c.clean,
         }
     }
 }

@@ -4,6 +4,7 @@ use std::str::FromStr;
 
 use crate::fields::RelayId;
 use crate::raw;
+use crate::sys::MESH_CIPHER_WORDS;
 use crate::Refusal;
 
 /// A key of 128 bits (`Aes128Key`). Its text is 32 digits; `Debug` does not show it, so that no log holds a key by accident.
@@ -107,7 +108,7 @@ impl Keys {
 
 /// FIPS 197's cipher, made ready for a key once for many blocks.
 #[derive(Clone)]
-pub struct Cipher([u32; 300]);
+pub struct Cipher([u32; MESH_CIPHER_WORDS]);
 
 impl Cipher {
     /// The cipher of a key.

@@ -46,6 +46,7 @@ pub use packets::{set_hop_count, Body, CommandPayload, DownlinkPayload, EventPay
 pub use receive::{receive, ReceiveError, Received};
 pub use refusal::Refusal;
 
+// from include/mesh.table: limits
 /// The bytes of the longest frame.
 pub const FRAME_MOST: usize = 8192;
 /// The bytes of the longest payload of an event or a command: a work buffer of so many takes any.
@@ -58,6 +59,15 @@ pub const PATH_MOST: usize = 42;
 pub const CACHE_MOST: usize = 64;
 /// The bytes of the longest text of a frame.
 pub const TEXT_MOST: usize = 90;
+// end
+
+/// The version of the library's face that this crate is written for.
+pub const VERSION: u32 = sys::MESH_VERSION;
+
+/// The version of the face that the linked library has: [`VERSION`], or the archive is another one's and nothing else may be called.
+pub fn version() -> u32 {
+    raw::version()
+}
 
 /// A run of a slice. What the library names lies in its slice; anything else is refused as it would refuse it, and a run of no bytes never is.
 fn part(whole: &[u8], start: u64, len: u64) -> Result<&[u8], Refusal> {

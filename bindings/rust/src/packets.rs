@@ -529,12 +529,12 @@ impl<'a> MeshPacket<'a> {
 
     /// What it is known by in a [`Cache`](crate::Cache).
     pub fn record(&self) -> Result<Record, Refusal> {
-        let [p_type, uplink_id, timestamp, relay_id] = raw::record(&self.flat())?;
+        let known = raw::record(&self.flat())?;
         Ok(Record {
-            p_type: PayloadType::from_byte(p_type as u8)?,
-            uplink_id: uplink_id as u16,
-            timestamp: timestamp as u32,
-            relay_id: RelayId::from(relay_id as u32),
+            p_type: PayloadType::from_byte(known.type_)?,
+            uplink_id: known.uplink_id,
+            timestamp: known.timestamp,
+            relay_id: known.relay_id.into(),
         })
     }
 }

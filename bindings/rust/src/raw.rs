@@ -5,9 +5,12 @@
 #![allow(unsafe_code)]
 
 use crate::sys;
+use crate::sys::{MESH_ALREADY_OPEN, MESH_CACHE_WORDS, MESH_CIPHER_WORDS};
+use crate::sys::{MESH_COUNTS_NUMBERS, MESH_ITEM_NUMBERS, MESH_PACKET_NUMBERS, MESH_RECORD_NUMBERS};
 use crate::Refusal;
 
-/// A packet's eighteen numbers.
+// from include/mesh.table: numbers
+/// A packet's numbers, each as wide as its field.
 #[derive(Clone, Copy, Default)]
 pub(crate) struct Flat {
     pub kind: u8,
@@ -18,8 +21,6 @@ pub(crate) struct Flat {
     pub relay_id: u32,
     pub uplink_id: u16,
     pub dr: u8,
-    pub rssi: i16,
-    pub snr: i8,
     pub channel: u8,
     pub frequency: u32,
     pub tx_power: u8,
@@ -28,7 +29,113 @@ pub(crate) struct Flat {
     pub body: u8,
     pub start: u64,
     pub len: u64,
+    pub rssi: i16,
+    pub snr: i8,
 }
+
+impl Flat {
+    // What the library stores is no wider than its field.
+    fn of(n: [u64; MESH_PACKET_NUMBERS], rssi: i16, snr: i8) -> Flat {
+        Flat {
+            kind: n[0] as u8,
+            payload_type: n[1] as u8,
+            hop_count: n[2] as u8,
+            has_mic: n[3] != 0,
+            mic: n[4] as u32,
+            relay_id: n[5] as u32,
+            uplink_id: n[6] as u16,
+            dr: n[7] as u8,
+            channel: n[8] as u8,
+            frequency: n[9] as u32,
+            tx_power: n[10] as u8,
+            delay: n[11] as u8,
+            timestamp: n[12] as u32,
+            body: n[13] as u8,
+            start: n[14],
+            len: n[15],
+            rssi,
+            snr,
+        }
+    }
+
+    fn numbers(&self) -> [u64; MESH_PACKET_NUMBERS] {
+        [
+            self.kind.into(),
+            self.payload_type.into(),
+            self.hop_count.into(),
+            self.has_mic.into(),
+            self.mic.into(),
+            self.relay_id.into(),
+            self.uplink_id.into(),
+            self.dr.into(),
+            self.channel.into(),
+            self.frequency.into(),
+            self.tx_power.into(),
+            self.delay.into(),
+            self.timestamp.into(),
+            self.body.into(),
+            self.start,
+            self.len,
+        ]
+    }
+}
+
+/// A record's numbers, each as wide as its field.
+#[derive(Clone, Copy, Default)]
+pub(crate) struct Known {
+    pub type_: u8,
+    pub uplink_id: u16,
+    pub timestamp: u32,
+    pub relay_id: u32,
+}
+
+impl Known {
+    // What the library stores is no wider than its field.
+    fn of(n: [u64; MESH_RECORD_NUMBERS]) -> Known {
+        Known { type_: n[0] as u8, uplink_id: n[1] as u16, timestamp: n[2] as u32, relay_id: n[3] as u32 }
+    }
+
+    fn numbers(&self) -> [u64; MESH_RECORD_NUMBERS] {
+        [self.type_.into(), self.uplink_id.into(), self.timestamp.into(), self.relay_id.into()]
+    }
+}
+
+/// A count's numbers, each as wide as its field.
+#[derive(Clone, Copy, Default)]
+pub(crate) struct Counts {
+    pub kept: u64,
+    pub skipped: u64,
+    pub kept_bytes: u64,
+    pub skipped_bytes: u64,
+    pub cut_bytes: u64,
+    pub clean: bool,
+}
+
+impl Counts {
+    // What the library stores is no wider than its field.
+    fn of(n: [u64; MESH_COUNTS_NUMBERS]) -> Counts {
+        Counts { kept: n[0], skipped: n[1], kept_bytes: n[2], skipped_bytes: n[3], cut_bytes: n[4], clean: n[5] != 0 }
+    }
+}
+
+/// An item's numbers, each as wide as its field.
+#[derive(Clone, Copy, Default)]
+pub(crate) struct At {
+    pub found: u8,
+    pub kind: u8,
+    pub tag: u8,
+    pub start: u64,
+    pub len: u64,
+    pub next: u64,
+}
+
+impl At {
+    // What the library stores is no wider than its field.
+    fn of(n: [u64; MESH_ITEM_NUMBERS]) -> At {
+        At { found: n[0] as u8, kind: n[1] as u8, tag: n[2] as u8, start: n[3], len: n[4], next: n[5] }
+    }
+}
+// end
 
 /// What holds a packet's payload.
 #[derive(Clone, Copy, Default)]
@@ -50,20 +157,6 @@ pub(crate) struct Place {
     pub len: u64,
 }
 
-/// What stands at a place of a clear payload; `start` and `len` are its value's, or all of a cut tail's.
-#[derive(Clone, Copy)]
-pub(crate) struct At {
-    pub found: u8,
-    pub kind: u8,
-    pub tag: u8,
-    pub start: u64,
-    pub len: u64,
-    pub next: u64,
-}
-
-/// What `mesh_decode` answers of a body that is open already.
-const ALREADY_OPEN: u8 = 255;
-
 fn answer(number: u8) -> Result<(), Refusal> {
     if number == 0 {
         Ok(())
@@ -72,99 +165,69 @@ fn answer(number: u8) -> Result<(), Refusal> {
     }
 }
 
-// The numbers come from fields of these widths, so nothing is cut.
-fn flat(n: [u64; 16], rssi: i16, snr: i8) -> Flat {
-    let [kind, payload_type, hop_count, has_mic, mic, relay_id, uplink_id, dr, channel, frequency, tx_power, delay, timestamp, body, start, len] =
-        n;
-    Flat {
-        kind: kind as u8,
-        payload_type: payload_type as u8,
-        hop_count: hop_count as u8,
-        has_mic: has_mic != 0,
-        mic: mic as u32,
-        relay_id: relay_id as u32,
-        uplink_id: uplink_id as u16,
-        dr: dr as u8,
-        rssi,
-        snr,
-        channel: channel as u8,
-        frequency: frequency as u32,
-        tx_power: tx_power as u8,
-        delay: delay as u8,
-        timestamp: timestamp as u32,
-        body: body as u8,
-        start,
-        len,
-    }
+/// The place that a call left in the numbers of a packet.
+fn place(numbers: [u64; MESH_PACKET_NUMBERS]) -> Place {
+    let Flat { body, start, len, .. } = Flat::of(numbers, 0, 0);
+    Place { body, start, len }
 }
 
-fn place(p: [u64; 3]) -> Place {
-    let [body, start, len] = p;
-    Place { body: body as u8, start, len }
-}
-
-macro_rules! with_packet {
-    ($call:ident, $p:expr, $($rest:expr),+) => {
+macro_rules! with_lent {
+    ($call:ident, [$($before:expr),*], $l:expr $(, $rest:expr)*) => {
         unsafe {
             sys::$call(
-                $p.kind, $p.payload_type, $p.hop_count, $p.has_mic, $p.mic, $p.relay_id, $p.uplink_id, $p.dr, $p.rssi, $p.snr, $p.channel,
-                $p.frequency, $p.tx_power, $p.delay, $p.timestamp, $p.body, $p.start, $p.len, $($rest),+
+                $($before,)* $l.frame.as_ptr(), $l.frame.len(), $l.work.as_ptr(), $l.work.len(), $l.kinds.as_ptr(), $l.kinds.len(),
+                $l.spans.as_ptr(), $l.spans.len(), $l.ids.as_ptr(), $l.ids.len(), $l.rssis.as_ptr(), $l.rssis.len(), $l.snrs.as_ptr(),
+                $l.snrs.len() $(, $rest)*
             )
         }
     };
 }
 
-macro_rules! with_lent {
-    ($call:ident, $p:expr, [$($key:expr),*], $l:expr, $($rest:expr),+) => {
-        with_packet!(
-            $call, $p, $($key,)* $l.frame.as_ptr(), $l.frame.len(), $l.work.as_ptr(), $l.work.len(), $l.kinds.as_ptr(), $l.kinds.len(),
-            $l.spans.as_ptr(), $l.spans.len(), $l.ids.as_ptr(), $l.ids.len(), $l.rssis.as_ptr(), $l.rssis.len(), $l.snrs.as_ptr(),
-            $l.snrs.len(), $($rest),+
-        )
-    };
+pub(crate) fn version() -> u32 {
+    unsafe { sys::mesh_version() }
 }
 
 // ---- frames
 
 pub(crate) fn read(frame: &[u8]) -> Result<Flat, Refusal> {
-    let (mut numbers, mut rssi, mut snr) = ([0; 16], 0, 0);
+    let (mut numbers, mut rssi, mut snr) = ([0; MESH_PACKET_NUMBERS], 0, 0);
     answer(unsafe { sys::mesh_read(frame.as_ptr(), frame.len(), &mut numbers, &mut rssi, &mut snr) })?;
-    Ok(flat(numbers, rssi, snr))
+    Ok(Flat::of(numbers, rssi, snr))
 }
 
 pub(crate) fn read_mesh(frame: &[u8]) -> Result<Flat, Refusal> {
-    let (mut numbers, mut rssi, mut snr) = ([0; 16], 0, 0);
+    let (mut numbers, mut rssi, mut snr) = ([0; MESH_PACKET_NUMBERS], 0, 0);
     answer(unsafe { sys::mesh_read_mesh(frame.as_ptr(), frame.len(), &mut numbers, &mut rssi, &mut snr) })?;
-    Ok(flat(numbers, rssi, snr))
+    Ok(Flat::of(numbers, rssi, snr))
 }
 
 pub(crate) fn read_body(kind: u8, body: &[u8]) -> Result<Flat, Refusal> {
-    let (mut numbers, mut rssi, mut snr) = ([0; 16], 0, 0);
+    let (mut numbers, mut rssi, mut snr) = ([0; MESH_PACKET_NUMBERS], 0, 0);
     answer(unsafe { sys::mesh_read_body(kind, body.as_ptr(), body.len(), &mut numbers, &mut rssi, &mut snr) })?;
-    Ok(flat(numbers, rssi, snr))
+    Ok(Flat::of(numbers, rssi, snr))
 }
 
 pub(crate) fn write(p: &Flat, l: &Lent, out: &mut [u8]) -> Result<usize, Refusal> {
     let mut length = 0;
-    answer(with_lent!(mesh_write, p, [], l, out.as_mut_ptr(), out.len(), &mut length))?;
+    answer(with_lent!(mesh_write, [&p.numbers(), p.rssi, p.snr], l, out.as_mut_ptr(), out.len(), &mut length))?;
     Ok(length as usize)
 }
 
 pub(crate) fn write_body(p: &Flat, l: &Lent, out: &mut [u8]) -> Result<usize, Refusal> {
     let mut length = 0;
-    answer(with_lent!(mesh_write_body, p, [], l, out.as_mut_ptr(), out.len(), &mut length))?;
+    answer(with_lent!(mesh_write_body, [&p.numbers(), p.rssi, p.snr], l, out.as_mut_ptr(), out.len(), &mut length))?;
     Ok(length as usize)
 }
 
 pub(crate) fn sign(p: &Flat, key: &[u8; 16], l: &Lent) -> Result<u32, Refusal> {
-    let mut made = 0;
-    answer(with_lent!(mesh_sign, p, [key], l, &mut made))?;
-    Ok(made)
+    let mut numbers = p.numbers();
+    answer(with_lent!(mesh_sign, [&mut numbers, p.rssi, p.snr, key], l))?;
+    Ok(Flat::of(numbers, p.rssi, p.snr).mic)
 }
 
 pub(crate) fn validate(p: &Flat, key: &[u8; 16], l: &Lent) -> Result<bool, Refusal> {
     let mut valid = 0;
-    answer(with_lent!(mesh_validate, p, [key], l, &mut valid))?;
+    answer(with_lent!(mesh_validate, [&p.numbers(), p.rssi, p.snr, key], l, &mut valid))?;
     Ok(valid != 0)
 }
 
@@ -173,23 +236,24 @@ pub(crate) fn set_hop_count(key: &[u8; 16], frame: &mut [u8], hop_count: u8) -> 
 }
 
 pub(crate) fn seal(p: &Flat, key: &[u8; 16], l: &Lent, out: &mut [u8]) -> Result<Place, Refusal> {
-    let mut at = [0; 3];
-    answer(with_lent!(mesh_seal, p, [key], l, out.as_mut_ptr(), out.len(), &mut at))?;
-    Ok(place(at))
+    let mut numbers = p.numbers();
+    answer(with_lent!(mesh_seal, [&mut numbers, key], l, out.as_mut_ptr(), out.len()))?;
+    Ok(place(numbers))
 }
 
-pub(crate) fn decrypt(p: &Flat, key: &[u8; 16], frame: &[u8], work: &mut [u8]) -> Result<([u64; 6], Place), Refusal> {
-    let (mut counts, mut at) = ([0; 6], [0; 3]);
-    answer(with_packet!(mesh_decrypt, p, key, frame.as_ptr(), frame.len(), work.as_mut_ptr(), work.len(), &mut counts, &mut at))?;
-    Ok((counts, place(at)))
+pub(crate) fn decrypt(p: &Flat, key: &[u8; 16], frame: &[u8], work: &mut [u8]) -> Result<(Counts, Place), Refusal> {
+    let (mut numbers, mut counts) = (p.numbers(), [0; MESH_COUNTS_NUMBERS]);
+    let (from, n) = (frame.as_ptr(), frame.len());
+    answer(unsafe { sys::mesh_decrypt(&mut numbers, key, from, n, work.as_mut_ptr(), work.len(), &mut counts) })?;
+    Ok((Counts::of(counts), place(numbers)))
 }
 
 /// `None` where the payload is open already.
-pub(crate) fn decode(p: &Flat, frame: &[u8], work: &[u8]) -> Result<Option<([u64; 6], Place)>, Refusal> {
-    let (mut counts, mut at) = ([0; 6], [0; 3]);
-    match with_packet!(mesh_decode, p, frame.as_ptr(), frame.len(), work.as_ptr(), work.len(), &mut counts, &mut at) {
-        0 => Ok(Some((counts, place(at)))),
-        ALREADY_OPEN => Ok(None),
+pub(crate) fn decode(p: &Flat, frame: &[u8], work: &[u8]) -> Result<Option<(Counts, Place)>, Refusal> {
+    let (mut numbers, mut counts) = (p.numbers(), [0; MESH_COUNTS_NUMBERS]);
+    match unsafe { sys::mesh_decode(&mut numbers, frame.as_ptr(), frame.len(), work.as_ptr(), work.len(), &mut counts) } {
+        0 => Ok(Some((Counts::of(counts), place(numbers)))),
+        MESH_ALREADY_OPEN => Ok(None),
         number => Err(Refusal::of(number)),
     }
 }
@@ -197,16 +261,15 @@ pub(crate) fn decode(p: &Flat, frame: &[u8], work: &[u8]) -> Result<Option<([u64
 // ---- items and heartbeats
 
 pub(crate) fn item(is_event: bool, payload: &[u8], at: u64) -> Result<At, Refusal> {
-    let mut item = [0; 6];
+    let mut item = [0; MESH_ITEM_NUMBERS];
     answer(unsafe { sys::mesh_item(is_event, payload.as_ptr(), payload.len(), at, &mut item) })?;
-    let [found, kind, tag, start, len, next] = item;
-    Ok(At { found: found as u8, kind: kind as u8, tag: tag as u8, start, len, next })
+    Ok(At::of(item))
 }
 
-pub(crate) fn count(is_event: bool, payload: &[u8]) -> Result<[u64; 6], Refusal> {
-    let mut counts = [0; 6];
+pub(crate) fn count(is_event: bool, payload: &[u8]) -> Result<Counts, Refusal> {
+    let mut counts = [0; MESH_COUNTS_NUMBERS];
     answer(unsafe { sys::mesh_count(is_event, payload.as_ptr(), payload.len(), &mut counts) })?;
-    Ok(counts)
+    Ok(Counts::of(counts))
 }
 
 pub(crate) fn stream(
@@ -357,13 +420,13 @@ pub(crate) fn encrypt_block(key: &[u8; 16], block: &mut [u8; 16]) {
     unsafe { sys::mesh_encrypt_block(key, block) }
 }
 
-pub(crate) fn prepare(key: &[u8; 16]) -> [u32; 300] {
-    let mut cipher = [0; 300];
+pub(crate) fn prepare(key: &[u8; 16]) -> [u32; MESH_CIPHER_WORDS] {
+    let mut cipher = [0; MESH_CIPHER_WORDS];
     unsafe { sys::mesh_prepare(key, &mut cipher) };
     cipher
 }
 
-pub(crate) fn encipher(cipher: &[u32; 300], block: &mut [u8; 16]) {
+pub(crate) fn encipher(cipher: &[u32; MESH_CIPHER_WORDS], block: &mut [u8; 16]) {
     unsafe { sys::mesh_encipher(cipher, block) }
 }
 
@@ -373,7 +436,7 @@ pub(crate) fn cmac(key: &[u8; 16], message: &[u8]) -> [u8; 16] {
     out
 }
 
-pub(crate) fn mac(cipher: &[u32; 300], message: &[u8]) -> [u8; 16] {
+pub(crate) fn mac(cipher: &[u32; MESH_CIPHER_WORDS], message: &[u8]) -> [u8; 16] {
     let mut out = [0; 16];
     unsafe { sys::mesh_mac(cipher, message.as_ptr(), message.len(), &mut out) };
     out
@@ -381,19 +444,19 @@ pub(crate) fn mac(cipher: &[u32; 300], message: &[u8]) -> [u8; 16] {
 
 // ---- duplicates and text
 
-pub(crate) fn record(p: &Flat) -> Result<[u64; 4], Refusal> {
-    let mut known = [0; 4];
-    answer(with_packet!(mesh_record, p, &mut known))?;
-    Ok(known)
+pub(crate) fn record(p: &Flat) -> Result<Known, Refusal> {
+    let mut record = [0; MESH_RECORD_NUMBERS];
+    answer(unsafe { sys::mesh_record(&p.numbers(), &mut record) })?;
+    Ok(Known::of(record))
 }
 
-pub(crate) fn cache_clear(words: &mut [u32; 195], size: u32) -> Result<(), Refusal> {
+pub(crate) fn cache_clear(words: &mut [u32; MESH_CACHE_WORDS], size: u32) -> Result<(), Refusal> {
     answer(unsafe { sys::mesh_cache_clear(words, size) })
 }
 
-pub(crate) fn cache_add(words: &mut [u32; 195], type_: u8, uplink_id: u16, timestamp: u32, relay_id: u32) -> Result<bool, Refusal> {
+pub(crate) fn cache_add(words: &mut [u32; MESH_CACHE_WORDS], record: &Known) -> Result<bool, Refusal> {
     let mut is_new = 0;
-    answer(unsafe { sys::mesh_cache_add(words, type_, uplink_id, timestamp, relay_id, &mut is_new) })?;
+    answer(unsafe { sys::mesh_cache_add(words, &record.numbers(), &mut is_new) })?;
     Ok(is_new != 0)
 }
 

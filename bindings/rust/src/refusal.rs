@@ -2,9 +2,11 @@
 use std::error::Error;
 use std::fmt;
 
-/// Why a call did nothing: one number of document 01 each. Nothing that was lent to the call has changed.
+/// Why a call did nothing: one number of document 01 each. Nothing that was lent to the call has changed. A later version may have more.
 #[derive(Clone, Copy, Debug, PartialEq, Eq, Hash, PartialOrd, Ord)]
 #[repr(u8)]
+#[non_exhaustive]
+// from include/mesh.table: refusals
 pub enum Refusal {
     /// The frame has no bytes.
     FrameEmpty = 1,
@@ -62,17 +64,19 @@ pub enum Refusal {
     MicMissing = 27,
     /// A frequency has 3 bytes.
     FrequencyLength = 28,
-    /// The code of a type, of a body or of an item's kind is none.
+    /// The code of a type, of a body or of an item's kind is none, or a number is wider than its field.
     TypeLarge = 29,
     /// The line has an odd count of digits, or a byte that is no hex digit.
     LineDigits = 30,
     /// A place and a length run outside their buffer.
     Outside = 45,
 }
+// end
 
+// from include/mesh.table: texts
 impl Refusal {
     /// Every refusal, by its number.
-    pub const ALL: [Refusal; 31] = [
+    pub const ALL: &'static [Refusal] = &[
         Refusal::FrameEmpty,
         Refusal::FrameShort,
         Refusal::NotMesh,
@@ -106,26 +110,8 @@ impl Refusal {
         Refusal::Outside,
     ];
 
-    /// Document 01's number.
-    pub fn number(self) -> u8 {
-        self as u8
-    }
-
-    /// The refusal of a number, if document 01 has it.
-    pub fn from_number(number: u8) -> Option<Refusal> {
-        Refusal::ALL.into_iter().find(|r| r.number() == number)
-    }
-
-    /// The refusal that the library answered. A number that document 01 lacks would be a fault of the library; so that no caller panics or
-    /// takes it for a success, it is told as [`Refusal::Outside`].
-    pub(crate) fn of(number: u8) -> Refusal {
-        Refusal::from_number(number).unwrap_or(Refusal::Outside)
-    }
-}
-
-impl fmt::Display for Refusal {
-    fn fmt(&self, f: &mut fmt::Formatter<'_>) -> fmt::Result {
-        f.write_str(match self {
+    fn text(self) -> &'static str {
+        match self {
             Refusal::FrameEmpty => "the frame has no bytes",
             Refusal::FrameShort => "the mesh frame has fewer than 5 bytes",
             Refusal::NotMesh => "the first byte is not a mesh frame's",
@@ -154,10 +140,35 @@ impl fmt::Display for Refusal {
             Refusal::KeyDigit => "the text of the key has a byte that is no hex digit",
             Refusal::MicMissing => "the packet has no MIC",
             Refusal::FrequencyLength => "a frequency has 3 bytes",
-            Refusal::TypeLarge => "the code of a type, of a body or of an item's kind is none",
+            Refusal::TypeLarge => "the code of a type, of a body or of an item's kind is none, or a number is wider than its field",
             Refusal::LineDigits => "the line has an odd count of digits, or a byte that is no hex digit",
             Refusal::Outside => "a place and a length run outside their buffer",
-        })
+        }
+    }
+}
+// end
+
+impl Refusal {
+    /// Document 01's number.
+    pub fn number(self) -> u8 {
+        self as u8
+    }
+
+    /// The refusal of a number, if document 01 has it.
+    pub fn from_number(number: u8) -> Option<Refusal> {
+        Refusal::ALL.iter().copied().find(|r| r.number() == number)
+    }
+
+    /// The refusal that the library answered. A number that document 01 lacks would be a fault of the library; so that no caller panics or
+    /// takes it for a success, it is told as [`Refusal::Outside`].
+    pub(crate) fn of(number: u8) -> Refusal {
+        Refusal::from_number(number).unwrap_or(Refusal::Outside)
+    }
+}
+
+impl fmt::Display for Refusal {
+    fn fmt(&self, f: &mut fmt::Formatter<'_>) -> fmt::Result {
+        f.write_str(self.text())
     }
 }
 
@@ -168,12 +179,11 @@ mod tests {
     use super::Refusal;
 
     #[test]
-    fn numbers_are_document_01s() {
+    fn numbers_ascend() {
         let numbers: Vec<u8> = Refusal::ALL.iter().map(|r| r.number()).collect();
-        let document: Vec<u8> = (1..=30).chain([45]).collect();
-        assert_eq!(numbers, document);
+        assert!(numbers.windows(2).all(|two| two[0] < two[1]));
         for n in 0..=255 {
-            assert_eq!(Refusal::from_number(n).map(Refusal::number), document.contains(&n).then_some(n));
+            assert_eq!(Refusal::from_number(n).map(Refusal::number), numbers.contains(&n).then_some(n));
         }
         assert_eq!(Refusal::of(99), Refusal::Outside);
         assert_eq!(Refusal::of(21), Refusal::OutputShort);

@@ -5,57 +5,66 @@
 //! both.
 #![allow(dead_code)]
 
-// enum mesh_kind: kinds of packets.
+// from include/mesh.table: codes
+pub(crate) const MESH_VERSION: u32 = 2;
+
+// enum mesh_size
+pub(crate) const MESH_CACHE_WORDS: usize = 195;
+pub(crate) const MESH_CIPHER_WORDS: usize = 300;
+pub(crate) const MESH_PACKET_NUMBERS: usize = 16;
+pub(crate) const MESH_RECORD_NUMBERS: usize = 4;
+pub(crate) const MESH_COUNTS_NUMBERS: usize = 6;
+pub(crate) const MESH_ITEM_NUMBERS: usize = 6;
+
+// enum mesh_refusal
+pub(crate) const MESH_ALREADY_OPEN: u8 = 255;
+
+// enum mesh_kind
 pub(crate) const MESH_UPLINK: u8 = 0;
 pub(crate) const MESH_DOWNLINK: u8 = 1;
 pub(crate) const MESH_EVENT: u8 = 2;
 pub(crate) const MESH_COMMAND: u8 = 3;
 pub(crate) const MESH_LORA: u8 = 4;
 
-// enum mesh_body: what the body of an event or a command is.
+// enum mesh_body
 pub(crate) const MESH_EMPTY: u8 = 0;
 pub(crate) const MESH_SEALED: u8 = 1;
 pub(crate) const MESH_OPEN_IN_FRAME: u8 = 2;
 pub(crate) const MESH_OPEN_IN_WORK: u8 = 3;
 pub(crate) const MESH_ITEMS: u8 = 4;
 
-// enum mesh_found: what stands at a place of a payload.
+// enum mesh_found
 pub(crate) const MESH_END: u8 = 0;
 pub(crate) const MESH_KEPT: u8 = 1;
 pub(crate) const MESH_SKIPPED: u8 = 2;
 pub(crate) const MESH_CUT: u8 = 3;
 
-// enum mesh_item_kind: what an item is, read or composed; a path is composed alone.
+// enum mesh_item_kind
 pub(crate) const MESH_ITEM_HEARTBEAT: u8 = 1;
 pub(crate) const MESH_ITEM_PROPRIETARY: u8 = 2;
 pub(crate) const MESH_ITEM_PATH: u8 = 3;
+// end
 
 extern "C" {
+    pub(crate) fn mesh_version() -> u32;
+
     // Reading.
-    pub(crate) fn mesh_read(frame: *const u8, n: usize, numbers: *mut [u64; 16], rssi: *mut i16, snr: *mut i8) -> u8;
-    pub(crate) fn mesh_read_mesh(frame: *const u8, n: usize, numbers: *mut [u64; 16], rssi: *mut i16, snr: *mut i8) -> u8;
-    pub(crate) fn mesh_read_body(kind: u8, body: *const u8, n: usize, numbers: *mut [u64; 16], rssi: *mut i16, snr: *mut i8) -> u8;
+    pub(crate) fn mesh_read(frame: *const u8, n: usize, numbers: *mut [u64; MESH_PACKET_NUMBERS], rssi: *mut i16, snr: *mut i8) -> u8;
+    pub(crate) fn mesh_read_mesh(frame: *const u8, n: usize, numbers: *mut [u64; MESH_PACKET_NUMBERS], rssi: *mut i16, snr: *mut i8) -> u8;
+    pub(crate) fn mesh_read_body(
+        kind: u8,
+        body: *const u8,
+        n: usize,
+        numbers: *mut [u64; MESH_PACKET_NUMBERS],
+        rssi: *mut i16,
+        snr: *mut i8,
+    ) -> u8;
 
     // Writing.
     pub(crate) fn mesh_write(
-        kind: u8,
-        payload_type: u8,
-        hop_count: u8,
-        has_mic: bool,
-        mic: u32,
-        relay_id: u32,
-        uplink_id: u16,
-        dr: u8,
+        numbers: *const [u64; MESH_PACKET_NUMBERS],
         rssi: i16,
         snr: i8,
-        channel: u8,
-        frequency: u32,
-        tx_power: u8,
-        delay: u8,
-        timestamp: u32,
-        body: u8,
-        start: u64,
-        len: u64,
         frame: *const u8,
         frame_len: usize,
         work: *const u8,
@@ -75,24 +84,9 @@ extern "C" {
         length: *mut u64,
     ) -> u8;
     pub(crate) fn mesh_write_body(
-        kind: u8,
-        payload_type: u8,
-        hop_count: u8,
-        has_mic: bool,
-        mic: u32,
-        relay_id: u32,
-        uplink_id: u16,
-        dr: u8,
+        numbers: *const [u64; MESH_PACKET_NUMBERS],
         rssi: i16,
         snr: i8,
-        channel: u8,
-        frequency: u32,
-        tx_power: u8,
-        delay: u8,
-        timestamp: u32,
-        body: u8,
-        start: u64,
-        len: u64,
         frame: *const u8,
         frame_len: usize,
         work: *const u8,
@@ -114,24 +108,9 @@ extern "C" {
 
     // Signing keys.
     pub(crate) fn mesh_sign(
-        kind: u8,
-        payload_type: u8,
-        hop_count: u8,
-        has_mic: bool,
-        mic: u32,
-        relay_id: u32,
-        uplink_id: u16,
-        dr: u8,
+        numbers: *mut [u64; MESH_PACKET_NUMBERS],
         rssi: i16,
         snr: i8,
-        channel: u8,
-        frequency: u32,
-        tx_power: u8,
-        delay: u8,
-        timestamp: u32,
-        body: u8,
-        start: u64,
-        len: u64,
         key: *const [u8; 16],
         frame: *const u8,
         frame_len: usize,
@@ -147,27 +126,11 @@ extern "C" {
         rssis_len: usize,
         snrs: *const i8,
         snrs_len: usize,
-        made: *mut u32,
     ) -> u8;
     pub(crate) fn mesh_validate(
-        kind: u8,
-        payload_type: u8,
-        hop_count: u8,
-        has_mic: bool,
-        mic: u32,
-        relay_id: u32,
-        uplink_id: u16,
-        dr: u8,
+        numbers: *const [u64; MESH_PACKET_NUMBERS],
         rssi: i16,
         snr: i8,
-        channel: u8,
-        frequency: u32,
-        tx_power: u8,
-        delay: u8,
-        timestamp: u32,
-        body: u8,
-        start: u64,
-        len: u64,
         key: *const [u8; 16],
         frame: *const u8,
         frame_len: usize,
@@ -189,24 +152,7 @@ extern "C" {
 
     // Encryption keys.
     pub(crate) fn mesh_seal(
-        kind: u8,
-        payload_type: u8,
-        hop_count: u8,
-        has_mic: bool,
-        mic: u32,
-        relay_id: u32,
-        uplink_id: u16,
-        dr: u8,
-        rssi: i16,
-        snr: i8,
-        channel: u8,
-        frequency: u32,
-        tx_power: u8,
-        delay: u8,
-        timestamp: u32,
-        body: u8,
-        start: u64,
-        len: u64,
+        numbers: *mut [u64; MESH_PACKET_NUMBERS],
         key: *const [u8; 16],
         frame: *const u8,
         frame_len: usize,
@@ -224,65 +170,28 @@ extern "C" {
         snrs_len: usize,
         out: *mut u8,
         out_len: usize,
-        place: *mut [u64; 3],
     ) -> u8;
     pub(crate) fn mesh_decrypt(
-        kind: u8,
-        payload_type: u8,
-        hop_count: u8,
-        has_mic: bool,
-        mic: u32,
-        relay_id: u32,
-        uplink_id: u16,
-        dr: u8,
-        rssi: i16,
-        snr: i8,
-        channel: u8,
-        frequency: u32,
-        tx_power: u8,
-        delay: u8,
-        timestamp: u32,
-        body: u8,
-        start: u64,
-        len: u64,
+        numbers: *mut [u64; MESH_PACKET_NUMBERS],
         key: *const [u8; 16],
         frame: *const u8,
         frame_len: usize,
         work: *mut u8,
         work_len: usize,
-        counts: *mut [u64; 6],
-        place: *mut [u64; 3],
+        counts: *mut [u64; MESH_COUNTS_NUMBERS],
     ) -> u8;
     pub(crate) fn mesh_decode(
-        kind: u8,
-        payload_type: u8,
-        hop_count: u8,
-        has_mic: bool,
-        mic: u32,
-        relay_id: u32,
-        uplink_id: u16,
-        dr: u8,
-        rssi: i16,
-        snr: i8,
-        channel: u8,
-        frequency: u32,
-        tx_power: u8,
-        delay: u8,
-        timestamp: u32,
-        body: u8,
-        start: u64,
-        len: u64,
+        numbers: *mut [u64; MESH_PACKET_NUMBERS],
         frame: *const u8,
         frame_len: usize,
         work: *const u8,
         work_len: usize,
-        counts: *mut [u64; 6],
-        place: *mut [u64; 3],
+        counts: *mut [u64; MESH_COUNTS_NUMBERS],
     ) -> u8;
 
     // Items of a clear payload.
-    pub(crate) fn mesh_item(is_event: bool, payload: *const u8, n: usize, at: u64, item: *mut [u64; 6]) -> u8;
-    pub(crate) fn mesh_count(is_event: bool, payload: *const u8, n: usize, counts: *mut [u64; 6]) -> u8;
+    pub(crate) fn mesh_item(is_event: bool, payload: *const u8, n: usize, at: u64, item: *mut [u64; MESH_ITEM_NUMBERS]) -> u8;
+    pub(crate) fn mesh_count(is_event: bool, payload: *const u8, n: usize, counts: *mut [u64; MESH_COUNTS_NUMBERS]) -> u8;
     pub(crate) fn mesh_stream(
         key: *const [u8; 16],
         is_command: bool,
@@ -330,35 +239,15 @@ extern "C" {
     pub(crate) fn mesh_signing_key(root: *const [u8; 16], key: *mut [u8; 16]);
     pub(crate) fn mesh_encryption_key(root: *const [u8; 16], key: *mut [u8; 16]);
     pub(crate) fn mesh_encrypt_block(key: *const [u8; 16], block: *mut [u8; 16]);
-    pub(crate) fn mesh_prepare(key: *const [u8; 16], cipher: *mut [u32; 300]);
-    pub(crate) fn mesh_encipher(cipher: *const [u32; 300], block: *mut [u8; 16]);
+    pub(crate) fn mesh_prepare(key: *const [u8; 16], cipher: *mut [u32; MESH_CIPHER_WORDS]);
+    pub(crate) fn mesh_encipher(cipher: *const [u32; MESH_CIPHER_WORDS], block: *mut [u8; 16]);
     pub(crate) fn mesh_cmac(key: *const [u8; 16], message: *const u8, n: usize, out: *mut [u8; 16]);
-    pub(crate) fn mesh_mac(cipher: *const [u32; 300], message: *const u8, n: usize, out: *mut [u8; 16]);
+    pub(crate) fn mesh_mac(cipher: *const [u32; MESH_CIPHER_WORDS], message: *const u8, n: usize, out: *mut [u8; 16]);
 
     // The duplicate record and the cache.
-    pub(crate) fn mesh_record(
-        kind: u8,
-        payload_type: u8,
-        hop_count: u8,
-        has_mic: bool,
-        mic: u32,
-        relay_id: u32,
-        uplink_id: u16,
-        dr: u8,
-        rssi: i16,
-        snr: i8,
-        channel: u8,
-        frequency: u32,
-        tx_power: u8,
-        delay: u8,
-        timestamp: u32,
-        body: u8,
-        start: u64,
-        len: u64,
-        known: *mut [u64; 4],
-    ) -> u8;
-    pub(crate) fn mesh_cache_clear(words: *mut [u32; 195], size: u32) -> u8;
-    pub(crate) fn mesh_cache_add(words: *mut [u32; 195], type_: u8, uplink_id: u16, timestamp: u32, relay_id: u32, is_new: *mut u8) -> u8;
+    pub(crate) fn mesh_record(numbers: *const [u64; MESH_PACKET_NUMBERS], record: *mut [u64; MESH_RECORD_NUMBERS]) -> u8;
+    pub(crate) fn mesh_cache_clear(words: *mut [u32; MESH_CACHE_WORDS], size: u32) -> u8;
+    pub(crate) fn mesh_cache_add(words: *mut [u32; MESH_CACHE_WORDS], record: *const [u64; MESH_RECORD_NUMBERS], is_new: *mut u8) -> u8;
 
     // What mesh-dump prints.
     pub(crate) fn mesh_dump_line(line: *const u8, n: usize, out: *mut u8, out_len: usize, length: *mut u64) -> u8;

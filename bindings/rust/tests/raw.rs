@@ -6,44 +6,101 @@ mod sys;
 // The archive comes with the crate.
 use lemikanto as _;
 
-use sys::{MESH_COMMAND as COMMAND, MESH_DOWNLINK as DOWNLINK, MESH_EVENT as EVENT, MESH_LORA as LORA, MESH_UPLINK as UPLINK};
-use sys::{MESH_ITEMS as ITEMS, MESH_OPEN_IN_FRAME as IN_FRAME, MESH_OPEN_IN_WORK as IN_WORK, MESH_SEALED as SEALED};
+use sys::{MESH_CACHE_WORDS, MESH_CIPHER_WORDS, MESH_PACKET_NUMBERS};
 use sys::{MESH_ITEM_HEARTBEAT as HEARTBEAT, MESH_ITEM_PATH as PATH, MESH_ITEM_PROPRIETARY as PROPRIETARY};
+
+const UPLINK: u64 = sys::MESH_UPLINK as u64;
+const DOWNLINK: u64 = sys::MESH_DOWNLINK as u64;
+const EVENT: u64 = sys::MESH_EVENT as u64;
+const COMMAND: u64 = sys::MESH_COMMAND as u64;
+const LORA: u64 = sys::MESH_LORA as u64;
+const SEALED: u64 = sys::MESH_SEALED as u64;
+const IN_FRAME: u64 = sys::MESH_OPEN_IN_FRAME as u64;
+const IN_WORK: u64 = sys::MESH_OPEN_IN_WORK as u64;
+const ITEMS: u64 = sys::MESH_ITEMS as u64;
 
 /// What stands in every output before a call.
 const BEFORE: u8 = 0xa5;
 /// Places and lengths outside any slice. A run of no bytes is empty wherever it stands.
 const FAR: [(u64, u64); 5] = [(0, u64::MAX), (u64::MAX, 1), (u64::MAX, u64::MAX), (1, u64::MAX), (1 << 63, 1 << 63)];
 
-#[derive(Clone, Copy)]
+#[derive(Clone, Copy, Debug, PartialEq)]
 struct P {
-    kind: u8,
-    payload_type: u8,
-    hop_count: u8,
-    has_mic: bool,
-    mic: u32,
-    relay_id: u32,
-    uplink_id: u16,
-    dr: u8,
-    rssi: i16,
-    snr: i8,
-    channel: u8,
-    frequency: u32,
-    tx_power: u8,
-    delay: u8,
-    timestamp: u32,
-    body: u8,
+    kind: u64,
+    payload_type: u64,
+    hop_count: u64,
+    has_mic: u64,
+    mic: u64,
+    relay_id: u64,
+    uplink_id: u64,
+    dr: u64,
+    channel: u64,
+    frequency: u64,
+    tx_power: u64,
+    delay: u64,
+    timestamp: u64,
+    body: u64,
     start: u64,
     len: u64,
+    rssi: i16,
+    snr: i8,
+}
+
+type Numbers = [u64; MESH_PACKET_NUMBERS];
+
+fn numbers(p: &P) -> Numbers {
+    [
+        p.kind,
+        p.payload_type,
+        p.hop_count,
+        p.has_mic,
+        p.mic,
+        p.relay_id,
+        p.uplink_id,
+        p.dr,
+        p.channel,
+        p.frequency,
+        p.tx_power,
+        p.delay,
+        p.timestamp,
+        p.body,
+        p.start,
+        p.len,
+    ]
+}
+
+fn of(n: Numbers, rssi: i16, snr: i8) -> P {
+    let [kind, payload_type, hop_count, has_mic, mic, relay_id, uplink_id, dr, rest @ ..] = n;
+    let [channel, frequency, tx_power, delay, timestamp, body, start, len] = rest;
+    P {
+        kind,
+        payload_type,
+        hop_count,
+        has_mic,
+        mic,
+        relay_id,
+        uplink_id,
+        dr,
+        channel,
+        frequency,
+        tx_power,
+        delay,
+        timestamp,
+        body,
+        start,
+        len,
+        rssi,
+        snr,
+    }
 }
 
 /// A packet that is written, of any kind; its payload is empty.
-const fn good(kind: u8) -> P {
+const fn good(kind: u64) -> P {
     P {
         kind,
         payload_type: if kind == LORA { 0 } else { kind },
         hop_count: 1,
-        has_mic: true,
+        has_mic: 1,
         mic: 0x0102_0304,
         relay_id: 0x0a0b_0c0d,
         uplink_id: 291,
@@ -76,48 +133,39 @@ fn framed(frame: &[u8]) -> L<'_> {
     L { frame, ..L::default() }
 }
 
-macro_rules! packet {
-    ($call:ident, $p:expr, $($rest:expr),+) => {
+macro_rules! lent {
+    ($call:ident, [$($before:expr),*], $l:expr $(, $rest:expr)*) => {
         unsafe {
             sys::$call(
-                $p.kind, $p.payload_type, $p.hop_count, $p.has_mic, $p.mic, $p.relay_id, $p.uplink_id, $p.dr, $p.rssi, $p.snr, $p.channel,
-                $p.frequency, $p.tx_power, $p.delay, $p.timestamp, $p.body, $p.start, $p.len, $($rest),+
+                $($before,)* $l.frame.as_ptr(), $l.frame.len(), $l.work.as_ptr(), $l.work.len(), $l.kinds.as_ptr(), $l.kinds.len(),
+                $l.spans.as_ptr(), $l.spans.len(), $l.ids.as_ptr(), $l.ids.len(), $l.rssis.as_ptr(), $l.rssis.len(), $l.snrs.as_ptr(),
+                $l.snrs.len() $(, $rest)*
             )
         }
     };
 }
 
-macro_rules! lent {
-    ($call:ident, $p:expr, [$($key:expr),*], $l:expr, $($rest:expr),+) => {
-        packet!(
-            $call, $p, $($key,)* $l.frame.as_ptr(), $l.frame.len(), $l.work.as_ptr(), $l.work.len(), $l.kinds.as_ptr(), $l.kinds.len(),
-            $l.spans.as_ptr(), $l.spans.len(), $l.ids.as_ptr(), $l.ids.len(), $l.rssis.as_ptr(), $l.rssis.len(), $l.snrs.as_ptr(),
-            $l.snrs.len(), $($rest),+
-        )
-    };
-}
-
-type Read = (u8, [u64; 16], i16, i8);
+type Read = (u8, Numbers, i16, i8);
 
 fn unread(number: u8) -> Read {
-    (number, [77; 16], 77, 77)
+    (number, [77; MESH_PACKET_NUMBERS], 77, 77)
 }
 
 fn read(b: &[u8]) -> Read {
-    let (mut n, mut r, mut s) = ([77; 16], 77, 77);
+    let (mut n, mut r, mut s) = ([77; MESH_PACKET_NUMBERS], 77, 77);
     let number = unsafe { sys::mesh_read(b.as_ptr(), b.len(), &mut n, &mut r, &mut s) };
     (number, n, r, s)
 }
 
 fn read_mesh(b: &[u8]) -> Read {
-    let (mut n, mut r, mut s) = ([77; 16], 77, 77);
+    let (mut n, mut r, mut s) = ([77; MESH_PACKET_NUMBERS], 77, 77);
     let number = unsafe { sys::mesh_read_mesh(b.as_ptr(), b.len(), &mut n, &mut r, &mut s) };
     (number, n, r, s)
 }
 
-fn read_body(kind: u8, b: &[u8]) -> Read {
-    let (mut n, mut r, mut s) = ([77; 16], 77, 77);
-    let number = unsafe { sys::mesh_read_body(kind, b.as_ptr(), b.len(), &mut n, &mut r, &mut s) };
+fn read_body(kind: u64, b: &[u8]) -> Read {
+    let (mut n, mut r, mut s) = ([77; MESH_PACKET_NUMBERS], 77, 77);
+    let number = unsafe { sys::mesh_read_body(kind as u8, b.as_ptr(), b.len(), &mut n, &mut r, &mut s) };
     (number, n, r, s)
 }
 
@@ -137,30 +185,33 @@ fn wrote(number: u8, length: u64, out: Vec<u8>) -> Wrote {
 
 fn write(p: &P, l: &L, room: usize) -> Wrote {
     let (mut out, mut length) = (vec![BEFORE; room], 77);
-    let number = lent!(mesh_write, p, [], l, out.as_mut_ptr(), room, &mut length);
+    let number = lent!(mesh_write, [&numbers(p), p.rssi, p.snr], l, out.as_mut_ptr(), room, &mut length);
     wrote(number, length, out)
 }
 
 fn write_body(p: &P, l: &L, room: usize) -> Wrote {
     let (mut out, mut length) = (vec![BEFORE; room], 77);
-    let number = lent!(mesh_write_body, p, [], l, out.as_mut_ptr(), room, &mut length);
+    let number = lent!(mesh_write_body, [&numbers(p), p.rssi, p.snr], l, out.as_mut_ptr(), room, &mut length);
     wrote(number, length, out)
 }
 
-fn sign(p: &P, key: &[u8; 16], l: &L) -> Result<u32, u8> {
-    let mut made = 77;
-    match lent!(mesh_sign, p, [key], l, &mut made) {
-        0 => Ok(made),
-        n => {
-            assert_eq!(made, 77);
-            Err(n)
-        }
+/// Has_mic and mic alone change.
+fn sign(p: &P, key: &[u8; 16], l: &L) -> Result<u64, u8> {
+    let mut n = numbers(p);
+    let number = lent!(mesh_sign, [&mut n, p.rssi, p.snr, key], l);
+    let mic = of(n, 0, 0).mic;
+    if number != 0 {
+        assert_eq!(n, numbers(p));
+        return Err(number);
     }
+    assert_eq!(n, numbers(&P { has_mic: 1, mic, ..*p }));
+    assert!(mic <= u64::from(u32::MAX));
+    Ok(mic)
 }
 
 fn validate(p: &P, key: &[u8; 16], l: &L) -> Result<u8, u8> {
     let mut valid = 77;
-    match lent!(mesh_validate, p, [key], l, &mut valid) {
+    match lent!(mesh_validate, [&numbers(p), p.rssi, p.snr, key], l, &mut valid) {
         0 => Ok(valid),
         n => {
             assert_eq!(valid, 77);
@@ -178,36 +229,47 @@ fn set_hop_count(key: &[u8; 16], frame: &mut [u8], hop_count: u8) -> u8 {
     number
 }
 
+/// Body, start and len; they alone change.
+fn place(number: u8, n: Numbers, p: &P) -> [u64; 3] {
+    let P { body, start, len, .. } = of(n, 0, 0);
+    assert_eq!(n, numbers(&if number == 0 { P { body, start, len, ..*p } } else { *p }));
+    [body, start, len]
+}
+
 fn seal(p: &P, key: &[u8; 16], l: &L, room: usize) -> Result<([u64; 3], Vec<u8>), u8> {
-    let (mut out, mut place) = (vec![BEFORE; room], [77; 3]);
-    match lent!(mesh_seal, p, [key], l, out.as_mut_ptr(), room, &mut place) {
-        0 => Ok((place, out)),
-        n => {
-            assert_eq!(place, [77; 3]);
-            assert!(out.iter().all(|b| *b == BEFORE));
-            Err(n)
-        }
+    let (mut n, mut out) = (numbers(p), vec![BEFORE; room]);
+    let number = lent!(mesh_seal, [&mut n, key], l, out.as_mut_ptr(), room);
+    let place = place(number, n, p);
+    if number != 0 {
+        assert!(out.iter().all(|b| *b == BEFORE));
+        return Err(number);
     }
+    Ok((place, out))
 }
 
 type Opened = ([u64; 6], [u64; 3], Vec<u8>);
 
-fn decrypt(p: &P, key: &[u8; 16], frame: &[u8], room: usize) -> Result<Opened, u8> {
-    let (mut work, mut counts, mut place) = (vec![BEFORE; room], [77; 6], [77; 3]);
-    let number = packet!(mesh_decrypt, p, key, frame.as_ptr(), frame.len(), work.as_mut_ptr(), room, &mut counts, &mut place);
+fn decrypt_in(p: &P, key: &[u8; 16], frame: &[u8], mut work: Vec<u8>) -> Result<Opened, u8> {
+    let (mut n, before, mut counts) = (numbers(p), work.clone(), [77; 6]);
+    let number = unsafe { sys::mesh_decrypt(&mut n, key, frame.as_ptr(), frame.len(), work.as_mut_ptr(), work.len(), &mut counts) };
+    let place = place(number, n, p);
     if number != 0 {
-        assert_eq!((counts, place), ([77; 6], [77; 3]));
-        assert!(work.iter().all(|b| *b == BEFORE));
+        assert_eq!((counts, work), ([77; 6], before));
         return Err(number);
     }
     Ok((counts, place, work))
 }
 
+fn decrypt(p: &P, key: &[u8; 16], frame: &[u8], room: usize) -> Result<Opened, u8> {
+    decrypt_in(p, key, frame, vec![BEFORE; room])
+}
+
 fn decode(p: &P, frame: &[u8], work: &[u8]) -> Result<([u64; 6], [u64; 3]), u8> {
-    let (mut counts, mut place) = ([77; 6], [77; 3]);
-    let number = packet!(mesh_decode, p, frame.as_ptr(), frame.len(), work.as_ptr(), work.len(), &mut counts, &mut place);
+    let (mut n, mut counts) = (numbers(p), [77; 6]);
+    let number = unsafe { sys::mesh_decode(&mut n, frame.as_ptr(), frame.len(), work.as_ptr(), work.len(), &mut counts) };
+    let place = place(number, n, p);
     if number != 0 {
-        assert_eq!((counts, place), ([77; 6], [77; 3]));
+        assert_eq!(counts, [77; 6]);
         return Err(number);
     }
     Ok((counts, place))
@@ -251,6 +313,12 @@ fn frame(first: u8, len: usize) -> Vec<u8> {
     b
 }
 
+#[test]
+fn versions() {
+    assert_eq!(unsafe { sys::mesh_version() }, sys::MESH_VERSION);
+    assert_eq!(lemikanto::version(), lemikanto::VERSION);
+}
+
 // ---- reading
 
 #[test]
@@ -280,7 +348,7 @@ fn reading() {
             let (number, n, rssi, snr) = read_mesh(&b);
             assert_eq!((number, n, rssi, snr), read(&b));
             assert_eq!((number, n[0], n[1], n[2], n[3]), (0, kind, kind, 8, 1));
-            let body = if kind < 2 || len == least { 0 } else { SEALED as u64 };
+            let body = if kind < 2 || len == least { 0 } else { SEALED };
             let at = if kind >= 2 && len == least { 0 } else { start };
             assert_eq!(n[13..], [body, at, (len - least) as u64]);
         }
@@ -300,7 +368,7 @@ fn reading_bodies() {
         assert_eq!(read_body(kind, &frame(0, 8188)), unread(5));
         for len in [least, 8187] {
             let (number, n, ..) = read_body(kind, &frame(0, len));
-            assert_eq!((number, n[0], n[2], n[3], n[15]), (0, kind as u64, 0, 0, (len - least) as u64));
+            assert_eq!((number, n[0], n[2], n[3], n[15]), (0, kind, 0, 0, (len - least) as u64));
         }
     }
 }
@@ -317,7 +385,7 @@ fn faults(p: P) -> Vec<(u8, P)> {
     }
     if p.kind < 2 {
         list.push((8, P { uplink_id: 4096, dr: 16, rssi: 1, delay: 0, ..p }));
-        list.push((8, P { uplink_id: u16::MAX, ..p }));
+        list.push((8, P { uplink_id: u64::from(u16::MAX), ..p }));
         list.push((9, P { dr: 16, rssi: 1, delay: 0, ..p }));
         list.push((9, P { dr: 255, ..p }));
     }
@@ -338,7 +406,7 @@ fn faults(p: P) -> Vec<(u8, P)> {
         list.push((16, P { delay: 17, frequency: 1, ..p }));
         list.push((16, P { delay: 255, ..p }));
         list.push((17, P { frequency: 1_677_721_650, ..p }));
-        list.push((17, P { frequency: u32::MAX, ..p }));
+        list.push((17, P { frequency: u64::from(u32::MAX), ..p }));
         list.push((18, P { frequency: 1, ..p }));
         list.push((18, P { frequency: 868_100_001, ..p }));
     }
@@ -371,13 +439,13 @@ fn writing_refuses_in_order() {
                 assert_eq!(write(&p, &l, 0), Err(hops));
                 assert_eq!(sign(&p, &KEY, &l), Err(hops));
                 assert_eq!(validate(&p, &KEY, &l), Err(hops));
-                assert_eq!(validate(&P { has_mic: false, ..p }, &KEY, &l), Err(27));
+                assert_eq!(validate(&P { has_mic: 0, ..p }, &KEY, &l), Err(27));
                 assert_eq!(write_body(&p, &l, 0), Err(number));
             }
-            assert_eq!(write(&P { has_mic: false, ..p }, &l, 0), Err(number));
+            assert_eq!(write(&P { has_mic: 0, ..p }, &l, 0), Err(number));
             assert_eq!(sign(&p, &KEY, &l), Err(number));
             assert_eq!(validate(&p, &KEY, &l), Err(number));
-            assert_eq!(validate(&P { has_mic: false, ..p }, &KEY, &l), Err(27));
+            assert_eq!(validate(&P { has_mic: 0, ..p }, &KEY, &l), Err(27));
             assert_eq!(write_body(&p, &l, 0), Err(number));
         }
         for start in [3, 4, u64::MAX] {
@@ -385,13 +453,13 @@ fn writing_refuses_in_order() {
             assert_eq!(write(&p, &l, 100), write(&good(kind), &L::default(), 100));
         }
         for hop_count in 1..=8 {
-            assert_eq!(write(&P { hop_count, ..p }, &l, 100).unwrap()[0], 0xe0 | kind << 3 | (hop_count - 1));
+            assert_eq!(write(&P { hop_count, ..p }, &l, 100).unwrap()[0], (0xe0 | kind << 3 | (hop_count - 1)) as u8);
         }
     }
     for (start, len) in FAR {
         assert_eq!(write(&P { start, len, ..good(LORA) }, &l, 10), Err(45));
     }
-    for f in [sign, |p: &P, k: &[u8; 16], l: &L| validate(p, k, l).map(u32::from)] {
+    for f in [sign, |p: &P, k: &[u8; 16], l: &L| validate(p, k, l).map(u64::from)] {
         assert_eq!(f(&good(LORA), &KEY, &l), Err(29));
     }
 }
@@ -404,7 +472,7 @@ fn writing_at_the_most() {
         let p = P { body: SEALED, start: 1, len: 8192 - rest, ..good(kind) };
         let over = P { len: p.len + 1, ..p };
         assert_eq!(write(&over, &l, 0), Err(5));
-        assert_eq!(write(&P { has_mic: false, ..over }, &l, 0), Err(27));
+        assert_eq!(write(&P { has_mic: 0, ..over }, &l, 0), Err(27));
         assert_eq!(write_body(&over, &l, 0), Err(5));
         assert_eq!(sign(&over, &KEY, &l), Err(5));
         assert_eq!(validate(&over, &KEY, &l), Err(5));
@@ -457,7 +525,7 @@ fn composing() {
     let ids = [1; 50];
     let rssis = [-1; 50];
     let snrs = [2; 50];
-    let at = |kinds: &[[u8; 2]], spans: &[[u32; 2]], len: u64, kind: u8| {
+    let at = |kinds: &[[u8; 2]], spans: &[[u32; 2]], len: u64, kind: u64| {
         let l = L { frame: &[], work: &value, kinds, spans, ids: &ids, rssis: &rssis, snrs: &snrs };
         let p = P { body: ITEMS, len, ..good(kind) };
         let w = write(&p, &l, 8192);
@@ -531,10 +599,10 @@ fn composing() {
 #[test]
 fn kinds_that_are_none() {
     let value = frame(1, 300);
-    let refused = |kind: u8, kinds: &[[u8; 2]], spans: &[[u32; 2]]| {
+    let refused = |kind: u64, kinds: &[[u8; 2]], spans: &[[u32; 2]]| {
         let l = L { work: &value, kinds, spans, ..L::default() };
         for hop_count in [0, 1, 9] {
-            for has_mic in [false, true] {
+            for has_mic in [0, 1] {
                 let p = P { body: ITEMS, len: kinds.len() as u64, hop_count, has_mic, ..good(kind) };
                 assert_eq!(write(&p, &l, 0), Err(29));
                 assert_eq!(write_body(&p, &l, 0), Err(29));
@@ -569,6 +637,85 @@ fn kinds_that_are_none() {
     }
 }
 
+/// Numbers that are wider than 32 bits. The low bits of the first two are good ones.
+const WIDE: [u64; 4] = [1 << 32, (1 << 32) + 1, 1 << 63, u64::MAX];
+
+/// What every call answers of a packet.
+fn answers(p: &P, frame: &[u8]) -> impl PartialEq + std::fmt::Debug {
+    let l = framed(frame);
+    let opened = (seal(p, &KEY, &l, 99), decrypt(p, &KEY, frame, 99), decode(p, frame, &[]));
+    (write(p, &l, 99), write_body(p, &l, 99), sign(p, &KEY, &l), validate(p, &KEY, &l), opened, record(p))
+}
+
+/// A number that is wider than its field counts as the field's largest; where nothing refuses that, it is 29 before all else.
+#[test]
+fn numbers_that_are_wide() {
+    let three = [1, 2, 3];
+    type Set = fn(&mut P, u64);
+    let largest: [(u64, Set); 9] = [
+        (255, |p, n| p.kind = n),
+        (255, |p, n| p.payload_type = n),
+        (255, |p, n| p.hop_count = n),
+        (65_535, |p, n| p.uplink_id = n),
+        (255, |p, n| p.dr = n),
+        (4_294_967_295, |p, n| p.frequency = n),
+        (255, |p, n| p.tx_power = n),
+        (255, |p, n| p.delay = n),
+        (255, |p, n| p.body = n),
+    ];
+    let none: [(u64, Set); 4] = [
+        (4_294_967_296, |p, n| p.mic = n),
+        (4_294_967_296, |p, n| p.relay_id = n),
+        (256, |p, n| p.channel = n),
+        (4_294_967_296, |p, n| p.timestamp = n),
+    ];
+    for kind in [UPLINK, DOWNLINK, EVENT, COMMAND, LORA] {
+        for (hop_count, has_mic) in [(0, 0), (1, 1), (9, 1)] {
+            let p = P { hop_count, has_mic, body: SEALED, len: 3, ..good(kind) };
+            for (most, set) in largest {
+                let mut q = p;
+                set(&mut q, most);
+                for wide in WIDE.into_iter().chain([most + 1]) {
+                    let mut w = p;
+                    set(&mut w, wide);
+                    assert_eq!(answers(&w, &three), answers(&q, &three));
+                }
+            }
+            for (least, set) in none {
+                for wide in WIDE.into_iter().chain([least]) {
+                    let mut w = p;
+                    set(&mut w, wide);
+                    let l = framed(&three);
+                    assert_eq!((write(&w, &l, 0), write_body(&w, &l, 0)), (Err(29), Err(29)));
+                    assert_eq!((sign(&w, &KEY, &l), validate(&w, &KEY, &l)), (Err(29), Err(29)));
+                    assert_eq!((seal(&w, &KEY, &l, 0), decrypt(&w, &KEY, &three, 0)), (Err(29), Err(29)));
+                    assert_eq!((decode(&w, &three, &[]), record(&w)), (Err(29), (29, [77; 4])));
+                }
+            }
+            // Any number but 0 is a MIC's.
+            for has_mic in WIDE.into_iter().chain([2]) {
+                assert_eq!(answers(&P { has_mic, ..p }, &three), answers(&P { has_mic: 1, ..p }, &three));
+            }
+        }
+    }
+    let l = L::default();
+    let (up, down, event) = (good(UPLINK), good(DOWNLINK), good(EVENT));
+    for (number, p) in [
+        (7, P { hop_count: 300, ..up }),
+        (8, P { uplink_id: 1 << 16, ..up }),
+        (9, P { dr: 300, ..up }),
+        (15, P { tx_power: 256, ..down }),
+        (16, P { delay: 257, ..down }),
+        (17, P { frequency: 1 << 32, ..down }),
+        (29, P { kind: 256, ..up }),
+        (29, P { payload_type: 256, ..up }),
+        (29, P { body: 256, ..event }),
+        (29, P { relay_id: 1 << 32, dr: 300, ..up }),
+    ] {
+        assert_eq!(write(&p, &l, 99), Err(number));
+    }
+}
+
 /// So it is with a body that is none; of uplinks, downlinks and LoRa frames it is not looked at.
 #[test]
 fn bodies_that_are_none() {
@@ -578,7 +725,7 @@ fn bodies_that_are_none() {
         for kind in [EVENT, COMMAND] {
             for (start, len) in [(0, 0), (0, 3), (9, 9)] {
                 for hop_count in [0, 1, 9] {
-                    for has_mic in [false, true] {
+                    for has_mic in [0, 1] {
                         let p = P { body, start, len, hop_count, has_mic, ..good(kind) };
                         assert_eq!(write(&p, &l, 0), Err(29));
                         assert_eq!(write_body(&p, &l, 0), Err(29));
@@ -667,29 +814,6 @@ fn hop_edit() {
     }
 }
 
-fn of(n: [u64; 16], rssi: i16, snr: i8) -> P {
-    P {
-        kind: n[0] as u8,
-        payload_type: n[1] as u8,
-        hop_count: n[2] as u8,
-        has_mic: n[3] != 0,
-        mic: n[4] as u32,
-        relay_id: n[5] as u32,
-        uplink_id: n[6] as u16,
-        dr: n[7] as u8,
-        rssi,
-        snr,
-        channel: n[8] as u8,
-        frequency: n[9] as u32,
-        tx_power: n[10] as u8,
-        delay: n[11] as u8,
-        timestamp: n[12] as u32,
-        body: n[13] as u8,
-        start: n[14],
-        len: n[15],
-    }
-}
-
 #[test]
 fn sealing_and_opening() {
     let long = frame(9, 8200);
@@ -719,9 +843,9 @@ fn sealing_and_opening() {
         assert_eq!(seal(&p, &KEY, &l, 8178), Err(21));
         assert_eq!(decrypt(&p, &KEY, &long, 8178), Err(21));
         // Sealing twice gives the clear bytes; hop count and MIC do not matter.
-        let (place, out) = seal(&P { hop_count: 0, has_mic: false, ..p }, &KEY, &l, 8179).unwrap();
+        let (place, out) = seal(&P { hop_count: 0, has_mic: 0, ..p }, &KEY, &l, 8179).unwrap();
         assert_eq!(place, [1, 0, 8179]);
-        let q = P { body: place[0] as u8, start: place[1], len: place[2], ..p };
+        let q = P { body: place[0], start: place[1], len: place[2], ..p };
         let (_, back) = seal(&q, &KEY, &framed(&out), 8190).unwrap();
         assert_eq!(back[..8179], long[1..8180]);
         assert_eq!(back[8179..], [BEFORE; 11]);
@@ -739,10 +863,7 @@ fn sealing_and_opening() {
         for (body, frame, work) in [(IN_FRAME, payload, &[][..]), (IN_WORK, &[][..], payload)] {
             let p = P { body, len: payload.len() as u64, ..good(EVENT) };
             assert_eq!(decode(&p, frame, work), Err(255));
-            let (mut held, mut counts, mut place) = (work.to_vec(), [77; 6], [77; 3]);
-            let (w, n) = (held.as_mut_ptr(), held.len());
-            assert_eq!(packet!(mesh_decrypt, p, &KEY, frame.as_ptr(), frame.len(), w, n, &mut counts, &mut place), number);
-            assert_eq!((&held[..], counts, place), (work, [77; 6], [77; 3]));
+            assert_eq!(decrypt_in(&p, &KEY, frame, work.to_vec()), Err(number));
             assert_eq!(seal(&p, &KEY, &L { frame, work, ..L::default() }, 4).unwrap().0[0], 1);
         }
     }
@@ -1057,7 +1178,7 @@ fn keys() {
 
 #[test]
 fn cipher_and_mac() {
-    let mut cipher = [0; 300];
+    let mut cipher = [0; MESH_CIPHER_WORDS];
     unsafe { sys::mesh_prepare(&KEY, &mut cipher) };
     let (mut signing, mut zeros) = ([0; 16], [0; 16]);
     unsafe {
@@ -1087,23 +1208,25 @@ fn cipher_and_mac() {
     }
     // Words that no key makes are a cipher too, if no good one.
     let mut block = [9; 16];
-    unsafe { sys::mesh_encipher(&[u32::MAX; 300], &mut block) };
+    unsafe { sys::mesh_encipher(&[u32::MAX; MESH_CIPHER_WORDS], &mut block) };
     let mut out = [0; 16];
-    unsafe { sys::mesh_mac(&[u32::MAX; 300], message.as_ptr(), 33, &mut out) };
+    unsafe { sys::mesh_mac(&[u32::MAX; MESH_CIPHER_WORDS], message.as_ptr(), 33, &mut out) };
 }
 
 // ---- duplicates
 
 fn record(p: &P) -> (u8, [u64; 4]) {
     let mut known = [77; 4];
-    let number = packet!(mesh_record, p, &mut known);
+    let number = unsafe { sys::mesh_record(&numbers(p), &mut known) };
     (number, known)
 }
 
-fn add(words: &mut [u32; 195], type_: u8, relay_id: u32) -> Result<u8, u8> {
+type Words = [u32; MESH_CACHE_WORDS];
+
+fn add_record(words: &mut Words, record: [u64; 4]) -> Result<u8, u8> {
     let before = *words;
     let mut is_new = 77;
-    match unsafe { sys::mesh_cache_add(words, type_, 1, 2, relay_id, &mut is_new) } {
+    match unsafe { sys::mesh_cache_add(words, &record, &mut is_new) } {
         0 => {
             assert!(is_new == 1 || before == *words);
             Ok(is_new)
@@ -1115,6 +1238,10 @@ fn add(words: &mut [u32; 195], type_: u8, relay_id: u32) -> Result<u8, u8> {
     }
 }
 
+fn add(words: &mut Words, type_: u64, relay_id: u32) -> Result<u8, u8> {
+    add_record(words, [type_, 1, 2, relay_id.into()])
+}
+
 #[test]
 fn records() {
     for kind in [4, 5, 255] {
@@ -1122,23 +1249,23 @@ fn records() {
         assert_eq!(record(&P { payload_type: kind, ..good(UPLINK) }), (29, [77; 4]));
     }
     for kind in [UPLINK, DOWNLINK] {
-        assert_eq!(record(&P { hop_count: 0, has_mic: false, ..good(kind) }), (0, [kind as u64, 291, 0, 0x0a0b_0c0d]));
+        assert_eq!(record(&P { hop_count: 0, has_mic: 0, ..good(kind) }), (0, [kind, 291, 0, 0x0a0b_0c0d]));
     }
     for kind in [EVENT, COMMAND] {
         let p = P { start: u64::MAX, len: u64::MAX, body: SEALED, ..good(kind) };
-        assert_eq!(record(&p), (0, [kind as u64, 0, 60, 0x0a0b_0c0d]));
+        assert_eq!(record(&p), (0, [kind, 0, 60, 0x0a0b_0c0d]));
     }
 }
 
 #[test]
 fn caches() {
     for size in [0, 65, 66, u32::MAX] {
-        let mut words = [0xa5a5_a5a5; 195];
+        let mut words = [0xa5a5_a5a5; MESH_CACHE_WORDS];
         assert_eq!(unsafe { sys::mesh_cache_clear(&mut words, size) }, 24);
-        assert_eq!(words, [0xa5a5_a5a5; 195]);
+        assert_eq!(words, [0xa5a5_a5a5; MESH_CACHE_WORDS]);
     }
     for size in [1, 2, 63, 64] {
-        let mut words = [0xa5a5_a5a5; 195];
+        let mut words = [0xa5a5_a5a5; MESH_CACHE_WORDS];
         assert_eq!(unsafe { sys::mesh_cache_clear(&mut words, size) }, 0);
         for type_ in [4, 255] {
             assert_eq!(add(&mut words, type_, 0), Err(29));
@@ -1149,15 +1276,23 @@ fn caches() {
             assert_eq!(add(&mut words, 0, id.saturating_sub(size - 1)), Ok(0));
         }
         assert_eq!(add(&mut words, 0, 2 * size - 1), Ok(1));
+        // A number that is wider than its field is 29.
+        for wide in WIDE {
+            for record in [[wide, 1, 2, 3], [0, wide, 2, 3], [0, 1, wide, 3], [0, 1, 2, wide], [256, 1, 2, 3], [0, 1 << 16, 2, 3]] {
+                assert_eq!(add_record(&mut words, record), Err(29));
+            }
+        }
+        let largest = [3, u16::MAX.into(), u32::MAX.into(), u32::MAX.into()];
+        assert_eq!((add_record(&mut words, largest), add_record(&mut words, largest)), (Ok(1), Ok(0)));
     }
     // Words that no cache is: refused, or taken, but never left.
-    assert_eq!(add(&mut [0; 195], 0, 1), Err(24));
-    for i in 0..195 {
+    assert_eq!(add(&mut [0; MESH_CACHE_WORDS], 0, 1), Err(24));
+    for i in 0..MESH_CACHE_WORDS {
         for word in [0, 1, 64, 65, u32::MAX] {
-            let mut words = [3; 195];
+            let mut words = [3; MESH_CACHE_WORDS];
             words[i] = word;
             let _ = add(&mut words, 0, 1);
-            let mut words = [u32::MAX; 195];
+            let mut words = [u32::MAX; MESH_CACHE_WORDS];
             words[i] = word;
             let _ = add(&mut words, 3, 1);
         }
