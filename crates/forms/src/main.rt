@@ -20,7 +20,6 @@ use fields::RelayPath;
 use fields::Timestamp;
 use fields::TxPower;
 use fields::UplinkId;
-use flat::Flat;
 use heartbeats::HeartbeatPayload;
 use heartbeats::HeartbeatRead;
 use heartbeats::PathRead;
@@ -31,8 +30,6 @@ use items::ItemRead;
 use libc::STDOUT_FILENO;
 use packets::MeshPacket;
 use packets::MeshRead;
-use packets::Packet;
-use packets::PacketRead;
 use wire::Run;
 use wire::be16_bytes;
 use wire::be16_of;
@@ -268,25 +265,11 @@ fn recorded(label: &[u8], frame: &[u8]) {
     }
 }
 
-fn plainly(label: &[u8], f: Flat) {
-    plain(label, f.kind as u64);
-    plain(b", hops ", f.hop_count as u64);
-    plain(b", mic ", f.mic as u64);
-    plain(b", payload at ", f.start);
-    plain(b", bytes ", f.len);
-    say(b"\n");
-}
-
-fn flattened(label: &[u8], frame: &[u8]) {
-    match Packet::from_slice(frame) {
-        PacketRead::Packet(p) => plainly(label, Flat::of(p)),
-        PacketRead::Refused(n) => plain(label, n as u64),
-    }
-}
-
 fn packets() {
-    let uplink = b"\xe0\x12\x35\x50\x07\x02\x0a\x0b\x0c\x0d\x40\x00\x00\x01\x02";
-    recorded(b"record of an uplink      ", uplink);
+    recorded(
+        b"record of an uplink      ",
+        b"\xe0\x12\x35\x50\x07\x02\x0a\x0b\x0c\x0d\x40\x00\x00\x01\x02",
+    );
     recorded(
         b"record of an event       ",
         b"\xf0\x00\x00\x00\x3c\x0a\x0b\x0c\x0d\x00\x00\x01\x02",
@@ -296,8 +279,6 @@ fn packets() {
         b"record of three words    ",
         PayloadCache::unpack([0x00070fff, 60, 0x0a0b0c0d]),
     );
-    flattened(b"an uplink, kind          ", uplink);
-    flattened(b"a LoRa frame, kind       ", b"\x40\x01\x02");
 }
 
 // ---- the least and the largest value of a field, and numbers of two bytes

@@ -96,6 +96,8 @@ use Rattle.mesh_c.proofs.text.mesh_dump_line.Kinds as mesh-dump-line-ki
 use Rattle.mesh_c.proofs.text.mesh_dump_line.Reads as mesh-dump-line-reads
 use Rattle.mesh_c.proofs.text.mesh_dump_frame.Kinds as mesh-dump-frame-kinds
 use Rattle.mesh_c.proofs.text.mesh_dump_frame.Reads as mesh-dump-frame-reads
+use Rattle.mesh_c.proofs.mesh_version.Kinds as mesh-version-kinds
+use Rattle.mesh_c.proofs.mesh_version.Reads as mesh-version-reads
 
 mesh-key : Fixed 2 mesh-key-kinds.ps mesh-key-kinds.r mesh-key-reads.Post
 mesh-key κs a x y v w p q =
@@ -247,21 +249,21 @@ mesh-read-body κs a x y v w p q = (
       ∙ ap₂ (λ (b : ℤ) (c : ℤ). (tt, (tt, (w .1 .1 .0, (b, (c, tt)))))) (p .1 .1 .0 ∙ sym (q .1 .1 .0)) (p .1 .1 .1 ∙ sym (q .1 .1 .1)),
 )
 
-mesh-write : Fixed 8 mesh-write-kinds.ps mesh-write-kinds.r mesh-write-reads.Post
+mesh-write : Fixed 9 mesh-write-kinds.ps mesh-write-kinds.r mesh-write-reads.Post
 mesh-write κs a x y v w p q =
-    (p .0 ∙ sym (q .0), ap₂ (λ (a : List ℕ) (b : ℕ). (tt, (tt, (tt, (tt, (tt, (tt, (tt, (tt, (tt, (tt, (tt, (tt, (tt, (tt, (tt, (tt, (tt, (tt, (tt, (tt, (tt, (tt, (tt, (tt, (tt, (a, (b, tt)))))))))))))))))))))))))))) (p .1 .0 ∙ sym (q .1 .0)) (p .1 .1 ∙ sym (q .1 .1)))
+    (p .0 ∙ sym (q .0), ap₂ (λ (a : List ℕ) (b : ℕ). (tt, (tt, (tt, (tt, (tt, (tt, (tt, (tt, (tt, (tt, (a, (b, tt))))))))))))) (p .1 .0 ∙ sym (q .1 .0)) (p .1 .1 ∙ sym (q .1 .1)))
 
-mesh-write-body : Fixed 8 mesh-write-body-kinds.ps mesh-write-body-kinds.r mesh-write-body-reads.Post
+mesh-write-body : Fixed 9 mesh-write-body-kinds.ps mesh-write-body-kinds.r mesh-write-body-reads.Post
 mesh-write-body κs a x y v w p q =
-    (p .0 ∙ sym (q .0), ap₂ (λ (a : List ℕ) (b : ℕ). (tt, (tt, (tt, (tt, (tt, (tt, (tt, (tt, (tt, (tt, (tt, (tt, (tt, (tt, (tt, (tt, (tt, (tt, (tt, (tt, (tt, (tt, (tt, (tt, (tt, (a, (b, tt)))))))))))))))))))))))))))) (p .1 .0 ∙ sym (q .1 .0)) (p .1 .1 ∙ sym (q .1 .1)))
+    (p .0 ∙ sym (q .0), ap₂ (λ (a : List ℕ) (b : ℕ). (tt, (tt, (tt, (tt, (tt, (tt, (tt, (tt, (tt, (tt, (a, (b, tt))))))))))))) (p .1 .0 ∙ sym (q .1 .0)) (p .1 .1 ∙ sym (q .1 .1)))
 
 mesh-sign : Fixed 8 mesh-sign-kinds.ps mesh-sign-kinds.r mesh-sign-reads.Post
 mesh-sign κs a x y v w p q =
-    (p .0 ∙ sym (q .0), ap (λ (a : ℕ). (tt, (tt, (tt, (tt, (tt, (tt, (tt, (tt, (tt, (tt, (tt, (tt, (tt, (tt, (tt, (tt, (tt, (tt, (tt, (tt, (tt, (tt, (tt, (tt, (tt, (tt, (a, tt)))))))))))))))))))))))))))) (p .1 ∙ sym (q .1)))
+    (p .0 ∙ sym (q .0), ap (λ (a : List ℕ). (a, (tt, (tt, (tt, (tt, (tt, (tt, (tt, (tt, (tt, (tt, tt)))))))))))) (p .1 ∙ sym (q .1)))
 
-mesh-validate : Fixed 8 mesh-validate-kinds.ps mesh-validate-kinds.r mesh-validate-reads.Post
+mesh-validate : Fixed 9 mesh-validate-kinds.ps mesh-validate-kinds.r mesh-validate-reads.Post
 mesh-validate κs a x y v w p q =
-    (p .0 ∙ sym (q .0), ap (λ (a : ℕ). (tt, (tt, (tt, (tt, (tt, (tt, (tt, (tt, (tt, (tt, (tt, (tt, (tt, (tt, (tt, (tt, (tt, (tt, (tt, (tt, (tt, (tt, (tt, (tt, (tt, (tt, (a, tt)))))))))))))))))))))))))))) (p .1 ∙ sym (q .1)))
+    (p .0 ∙ sym (q .0), ap (λ (a : ℕ). (tt, (tt, (tt, (tt, (tt, (tt, (tt, (tt, (tt, (tt, (tt, (a, tt))))))))))))) (p .1 ∙ sym (q .1)))
 
 mesh-set-hop-count : Fixed 2 mesh-set-hop-count-kinds.ps mesh-set-hop-count-kinds.r mesh-set-hop-count-reads.Post
 mesh-set-hop-count κs a x y v w p q =
@@ -269,30 +271,30 @@ mesh-set-hop-count κs a x y v w p q =
 
 mesh-seal : Fixed 9 mesh-seal-kinds.ps mesh-seal-kinds.r mesh-seal-reads.Post
 mesh-seal κs a x y v w p q =
-    (p .0 ∙ sym (q .0), ap₂ (λ (a : List ℕ) (b : List ℕ). (tt, (tt, (tt, (tt, (tt, (tt, (tt, (tt, (tt, (tt, (tt, (tt, (tt, (tt, (tt, (tt, (tt, (tt, (tt, (tt, (tt, (tt, (tt, (tt, (tt, (tt, (a, (b, tt))))))))))))))))))))))))))))) (p .1 .0 ∙ sym (q .1 .0)) (p .1 .1 ∙ sym (q .1 .1)))
+    (p .0 ∙ sym (q .0), ap₂ (λ (a : List ℕ) (b : List ℕ). (a, (tt, (tt, (tt, (tt, (tt, (tt, (tt, (tt, (b, tt))))))))))) (p .1 .0 ∙ sym (q .1 .0)) (p .1 .1 ∙ sym (q .1 .1)))
 
 mesh-decrypt : Fixed 5 mesh-decrypt-kinds.ps mesh-decrypt-kinds.r mesh-decrypt-reads.Post
 mesh-decrypt κs a x y v w p q = (
   p .0 ∙ sym (q .0),
-  ap (λ (a : List ℕ). (tt, (tt, (tt, (tt, (tt, (tt, (tt, (tt, (tt, (tt, (tt, (tt, (tt, (tt, (tt, (tt, (tt, (tt, (tt, (tt, (a, (v .1 .1 .1 .1 .1 .1 .1 .1 .1 .1 .1 .1 .1 .1 .1 .1 .1 .1 .1 .1 .1 .0, (v .1 .1 .1 .1 .1 .1 .1 .1 .1 .1 .1 .1 .1 .1 .1 .1 .1 .1 .1 .1 .1 .1 .0, tt)))))))))))))))))))))))) (p .1 .0 ∙ sym (q .1 .0))
-      ∙ ap₂ (λ (b : List ℕ) (c : List ℕ). (tt, (tt, (tt, (tt, (tt, (tt, (tt, (tt, (tt, (tt, (tt, (tt, (tt, (tt, (tt, (tt, (tt, (tt, (tt, (tt, (w .1 .1 .1 .1 .1 .1 .1 .1 .1 .1 .1 .1 .1 .1 .1 .1 .1 .1 .1 .1 .0, (b, (c, tt)))))))))))))))))))))))) (p .1 .1 .0 ∙ sym (q .1 .1 .0)) (p .1 .1 .1 ∙ sym (q .1 .1 .1)),
+  ap (λ (a : List ℕ). (a, (tt, (tt, (v .1 .1 .1 .0, (v .1 .1 .1 .1 .0, tt)))))) (p .1 .0 ∙ sym (q .1 .0))
+      ∙ ap₂ (λ (b : List ℕ) (c : List ℕ). (w .0, (tt, (tt, (b, (c, tt)))))) (p .1 .1 .0 ∙ sym (q .1 .1 .0)) (p .1 .1 .1 ∙ sym (q .1 .1 .1)),
 )
 
 mesh-decode : Fixed 3 mesh-decode-kinds.ps mesh-decode-kinds.r mesh-decode-reads.Post
 mesh-decode κs a x y v w p q =
-    (p .0 ∙ sym (q .0), ap₂ (λ (a : List ℕ) (b : List ℕ). (tt, (tt, (tt, (tt, (tt, (tt, (tt, (tt, (tt, (tt, (tt, (tt, (tt, (tt, (tt, (tt, (tt, (tt, (tt, (tt, (a, (b, tt))))))))))))))))))))))) (p .1 .0 ∙ sym (q .1 .0)) (p .1 .1 ∙ sym (q .1 .1)))
+    (p .0 ∙ sym (q .0), ap₂ (λ (a : List ℕ) (b : List ℕ). (a, (tt, (tt, (b, tt))))) (p .1 .0 ∙ sym (q .1 .0)) (p .1 .1 ∙ sym (q .1 .1)))
 
-mesh-record : Fixed 1 mesh-record-kinds.ps mesh-record-kinds.r mesh-record-reads.Post
+mesh-record : Fixed 2 mesh-record-kinds.ps mesh-record-kinds.r mesh-record-reads.Post
 mesh-record κs a x y v w p q =
-    (p .0 ∙ sym (q .0), ap (λ (a : List ℕ). (tt, (tt, (tt, (tt, (tt, (tt, (tt, (tt, (tt, (tt, (tt, (tt, (tt, (tt, (tt, (tt, (tt, (tt, (a, tt)))))))))))))))))))) (p .1 ∙ sym (q .1)))
+    (p .0 ∙ sym (q .0), ap (λ (a : List ℕ). (tt, (a, tt))) (p .1 ∙ sym (q .1)))
 
 mesh-cache-clear : Fixed 1 mesh-cache-clear-kinds.ps mesh-cache-clear-kinds.r mesh-cache-clear-reads.Post
 mesh-cache-clear κs a x y v w p q =
     (p .0 ∙ sym (q .0), ap (λ (a : List ℕ). (a, (tt, tt))) (p .1 ∙ sym (q .1)))
 
-mesh-cache-add : Fixed 2 mesh-cache-add-kinds.ps mesh-cache-add-kinds.r mesh-cache-add-reads.Post
+mesh-cache-add : Fixed 3 mesh-cache-add-kinds.ps mesh-cache-add-kinds.r mesh-cache-add-reads.Post
 mesh-cache-add κs a x y v w p q =
-    (p .0 ∙ sym (q .0), ap₂ (λ (a : List ℕ) (b : ℕ). (a, (tt, (tt, (tt, (tt, (b, tt))))))) (p .1 .0 ∙ sym (q .1 .0)) (p .1 .1 ∙ sym (q .1 .1)))
+    (p .0 ∙ sym (q .0), ap₂ (λ (a : List ℕ) (b : ℕ). (a, (tt, (b, tt)))) (p .1 .0 ∙ sym (q .1 .0)) (p .1 .1 ∙ sym (q .1 .1)))
 
 mesh-dump-line : Fixed 3 mesh-dump-line-kinds.ps mesh-dump-line-kinds.r mesh-dump-line-reads.Post
 mesh-dump-line κs a x y v w p q =
@@ -301,3 +303,7 @@ mesh-dump-line κs a x y v w p q =
 mesh-dump-frame : Fixed 3 mesh-dump-frame-kinds.ps mesh-dump-frame-kinds.r mesh-dump-frame-reads.Post
 mesh-dump-frame κs a x y v w p q =
     (p .0 ∙ sym (q .0), ap₂ (λ (a : List ℕ) (b : ℕ). (tt, (a, (b, tt)))) (p .1 .0 ∙ sym (q .1 .0)) (p .1 .1 ∙ sym (q .1 .1)))
+
+mesh-version : Fixed 0 mesh-version-kinds.ps mesh-version-kinds.r mesh-version-reads.Post
+mesh-version κs a x y v w p q =
+    (p ∙ sym q, refl)

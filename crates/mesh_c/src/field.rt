@@ -18,9 +18,26 @@ use fields::TypeRead;
 use fields::UplinkMetadata;
 use fields::decode_freq;
 use fields::encode_freq;
-use flat::from_u8;
-use flat::from_u16;
-use flat::from_u32;
+
+// ---- numbers of one width
+
+pub(crate) fn from_u8(x: u8) -> u64
+    ensures { λ r. ⌜ r ≡ x ⌝ }
+{
+    x as u64
+}
+
+pub(crate) fn from_u16(x: u16) -> u64
+    ensures { λ r. ⌜ r ≡ x ⌝ }
+{
+    x as u64
+}
+
+pub(crate) fn from_u32(x: u32) -> u64
+    ensures { λ r. ⌜ r ≡ x ⌝ }
+{
+    x as u64
+}
 
 // Whether a number is a type's: 0, or 29. The types are 0 uplink, 1 downlink, 2 event and 3 command.
 #[no_mangle]

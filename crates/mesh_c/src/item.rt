@@ -7,10 +7,9 @@ ghost use Rattle.heartbeats.specs.Paths.{paths, pathsIn};
 ghost use Rattle.items.specs.Items.{countsOf, countsSay, bareItemAt, itemSays};
 ghost use Rattle.seal.specs.Stream.{sealedOf};
 ghost use Rattle.mesh_c.specs.Face.{asItIs, countList, itemList, foundList, entriesIn, entryRelay, entryRssi, entrySnr};
+use crate::field::from_u8;
 use aes128::Aes128Key;
 use base::Written;
-use flat::from_bool;
-use flat::from_u8;
 use heartbeats::HeartbeatPayload;
 use heartbeats::HeartbeatRead;
 use heartbeats::PathRead;
@@ -21,6 +20,7 @@ use items::Item;
 use items::ItemRead;
 use items::Opening;
 use items::OpeningRead;
+use numbers::from_bool;
 use seal::encrypt_events_commands;
 
 // A payload sealed, or a sealed one opened: 0, 5 or 21.

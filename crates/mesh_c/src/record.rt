@@ -1,16 +1,20 @@
 // The duplicate cache, in 195 words that the caller holds.
 ghost use mathlib.Core.Path.{_≡_};
 ghost use Rattle.base.specs.Answers.{numberIn, leftBy, checkedNumber};
-ghost use Rattle.fields.specs.Header.{typeRead};
-ghost use Rattle.flat.specs.Flat.{bit};
+ghost use Rattle.numbers.specs.Numbers.{bit};
 ghost use Rattle.cache.specs.Cache.{addSays};
 ghost use Rattle.packed.specs.inner.Packed.{clearAnswer, clearWords};
-ghost use Rattle.mesh_c.specs.Face.{cacheAnswer, cacheWords};
+ghost use Rattle.mesh_c.specs.Face.{recordWide, cacheAnswer, cacheWords};
 use base::Checked;
+use base::Refusal;
 use cache::CacheAnswer;
 use cache::PayloadCache;
-use fields::PayloadType;
+use fields::RelayId;
+use fields::Timestamp;
 use fields::TypeRead;
+use numbers::to_type;
+use numbers::to_u16;
+use numbers::to_u32;
 use packed::Words;
 
 // An empty cache of the last `size` records: 0, or 24 with the words as they were.
@@ -25,25 +29,35 @@ pub extern "C" fn mesh_cache_clear(words: &mut Words, size: u32) -> u8
     }
 }
 
-fn add_record(
-    words: &mut Words,
-    type_code: u8,
-    uplink_id: u16,
-    timestamp: u32,
-    relay_id: u32,
-) -> CacheAnswer
-    ensures answer { λ r. ⌜ r ≡ cacheAnswer (now (words .entry)) «uplink_id» timestamp «relay_id» (typeRead «type_code») ⌝ }
-    ensures words { λ _. ⌜ now (words .exit) ≡ cacheWords (now (words .entry)) «uplink_id» timestamp «relay_id» (typeRead «type_code») ⌝ }
+// Numbers that are wider than their fields.
+fn record_wide(record: &[u64; 4]) -> bool
+    ensures { λ r. ⌜ r ≡ recordWide (now («record» .entry)) ⌝ }
 {
-    match PayloadType::from_byte(type_code) {
+    if 65535 < record[1] {
+        return true;
+    }
+    if (Timestamp::MOST as u64) < record[2] {
+        return true;
+    }
+    (RelayId::MOST as u64) < record[3]
+}
+
+fn add_record(words: &mut Words, record: &[u64; 4]) -> CacheAnswer
+    ensures answer { λ r. ⌜ r ≡ cacheAnswer (now (words .entry)) (now («record» .entry)) ⌝ }
+    ensures words { λ _. ⌜ now (words .exit) ≡ cacheWords (now (words .entry)) (now («record» .entry)) ⌝ }
+{
+    if record_wide(record) {
+        return CacheAnswer::Refused(Refusal::TYPE_LARGE);
+    }
+    match to_type(record[0]) {
         TypeRead::Refused(n) => CacheAnswer::Refused(n),
         TypeRead::Kind(p_type) => packed::add(
             words,
             PayloadCache {
                 p_type,
-                uplink_id,
-                timestamp,
-                relay_id,
+                uplink_id: to_u16(record[1]),
+                timestamp: to_u32(record[2]),
+                relay_id: to_u32(record[3]),
             },
         ),
     }
@@ -51,19 +65,12 @@ fn add_record(
 
 // A record added: 0 with 1 in `is_new` where it is new and 0 where it is one of the last, or 29, 24 with nothing changed.
 #[no_mangle]
-pub extern "C" fn mesh_cache_add(
-    words: &mut Words,
-    type_code: u8,
-    uplink_id: u16,
-    timestamp: u32,
-    relay_id: u32,
-    is_new: &mut u8,
-) -> u8
-    ensures answer { λ r. ⌜ r ≡ numberIn (addSays (cacheAnswer (now (words .entry)) «uplink_id» timestamp «relay_id» (typeRead «type_code»))) ⌝ }
-    ensures words { λ _. ⌜ now (words .exit) ≡ cacheWords (now (words .entry)) «uplink_id» timestamp «relay_id» (typeRead «type_code») ⌝ }
-    ensures is_new { λ _. ⌜ now («is_new» .exit) ≡ leftBy bit (now («is_new» .entry)) (addSays (cacheAnswer (now (words .entry)) «uplink_id» timestamp «relay_id» (typeRead «type_code»))) ⌝ }
+pub extern "C" fn mesh_cache_add(words: &mut Words, record: &[u64; 4], is_new: &mut u8) -> u8
+    ensures answer { λ r. ⌜ r ≡ numberIn (addSays (cacheAnswer (now (words .entry)) (now («record» .entry)))) ⌝ }
+    ensures words { λ _. ⌜ now (words .exit) ≡ cacheWords (now (words .entry)) (now («record» .entry)) ⌝ }
+    ensures is_new { λ _. ⌜ now («is_new» .exit) ≡ leftBy bit (now («is_new» .entry)) (addSays (cacheAnswer (now (words .entry)) (now («record» .entry)))) ⌝ }
 {
-    match add_record(words, type_code, uplink_id, timestamp, relay_id) {
+    match add_record(words, record) {
         CacheAnswer::New => {
             *is_new = 1;
             0

@@ -6,7 +6,8 @@ use mathlib.Core.Bool.{Bool, true, false}
 use mathlib.Core.Path.{_≡_, refl, sym, _∙_}
 use mathlib.Core.List.{List, _++_}
 use lib.Dec.{ltb, eqb}
-use lib.ListN.{length, drop}
+use lib.IntN.{ℤ, pos}
+use lib.ListN.{length, drop, getD}
 use borrow.Author.Tests.{lt-ltb, le-ltb, ne-eqb}
 use Rattle.base.specs.Pick.{pick}
 use Rattle.base.specs.Numbers.{typeLarge}
@@ -14,6 +15,8 @@ use Rattle.base.specs.Answers.{Answer, value, number, numberIn, leftBy, Frame, 
 use Rattle.base.specs.declared.Checked.{Checked}
 use Rattle.base.specs.declared.Checked.the-variants as checked
 use Rattle.fields.specs.Header.{typeRead, typeSays, byteSays}
+use Rattle.fields.specs.Limits.{micMost, relayIdMost, channelMost, timestampMost}
+use Rattle.fields.specs.declared.header.MHDR.{MHDR}
 use Rattle.fields.specs.declared.header.PayloadType.{PayloadType}
 use Rattle.fields.specs.declared.header.PayloadType.the-variants as type
 use Rattle.fields.specs.declared.header.TypeRead.{TypeRead}
@@ -35,13 +38,17 @@ use Rattle.events.specs.declared.stamped.EventRead.the-variants as event
 use Rattle.events.specs.declared.stamped.CommandPayload.{CommandPayload}
 use Rattle.events.specs.declared.stamped.CommandRead.{CommandRead}
 use Rattle.events.specs.declared.stamped.CommandRead.the-variants as command
-use Rattle.packets.specs.Read.{ofMesh, meshSays, packetSays}
+use Rattle.packets.specs.Read.{ofUplink, ofDownlink, ofEvent, ofCommand, ofMesh, meshSays, packetSays}
 use Rattle.packets.specs.Write.{payloadWire, packetFrame}
+use Rattle.packets.specs.declared.mesh.PayloadRead.{PayloadRead}
+use Rattle.packets.specs.declared.mesh.PayloadRead.the-variants as body
+use Rattle.sealing.specs.Mesh.{sealOf, meshSealed, ofEventOpened, ofCommandOpened, meshDecrypted, meshWork, meshDecoded, meshOpenedSays}
 use Rattle.packets.specs.declared.mesh.Payload.{Payload}
 use Rattle.packets.specs.declared.mesh.Payload.the-variants as payload
 use Rattle.packets.specs.declared.mesh.MeshPacket.{MeshPacket}
 use Rattle.packets.specs.declared.mesh.MeshRead.{MeshRead}
 use Rattle.packets.specs.declared.mesh.MeshRead.the-variants.{Mesh, Refused as NoMesh}
+use Rattle.packets.specs.declared.any.Packet.the-variants.{Lora}
 use Rattle.packets.specs.declared.any.PacketRead.{PacketRead}
 use Rattle.packets.specs.declared.any.PacketRead.the-variants as packet
 use Rattle.sealing.specs.Open.{openedBy, sealWire, decryptOf, workAfter, Told, told, wasOpen, openedSays}
@@ -53,11 +60,11 @@ use Rattle.sealing.specs.declared.mesh.MeshOpened.the-variants.{Refused as NotO
 use Rattle.mic.specs.Mic.{setMic, validateMic, validSays}
 use Rattle.mic.specs.declared.Validated.the-variants.{Refused as NotValidated}
 use Rattle.hops.specs.Hops.{leaves}
-use Rattle.cache.specs.Cache.{rec, addSays}
+use Rattle.cache.specs.Cache.{addSays}
+use Rattle.cache.specs.declared.ring.CacheAnswer.the-variants.{Refused as NotAdded}
 use Rattle.packed.specs.inner.Packed.{clearAnswer, clearWords}
-use Rattle.flat.specs.Flat.{typedBy, kindBy, strangeBody, meshFrom, packetFrom}
-use Rattle.flat.specs.declared.Flat.{Flat}
-use Rattle.mesh_c.specs.Face.{headerByteBy, ifMesh, ifPacket, flatFrame, flatBody, flatSigned, flatValid, flatSealed, flatSeal, flatDecrypted, flatWork, flatDecoded, openedNumber, countsLeft, placeLeft, bareUplink, bareDownlink, bareEvent, bareCommand, bareOf, bareBy, cacheAnswer, cacheWords}
+use Rattle.numbers.specs.Numbers.{bodyRead, around, bareBy, tooWide, strangeBody, typedBy, kindBy, meshFrom, packetFrom, ifPacket, numbersFrame, runFrom}
+use Rattle.mesh_c.specs.Face.{headerByteBy, ifMesh, numbersBody, numbersSigned, numbersValid, numbersSealed, numbersSeal, numbersDecrypted, numbersWork, numbersDecoded, openedNumber, countsLeft, openedLeft, recordWide, recordFrom, answerBy, wordsBy, cacheAnswer, cacheWords}
 use Rattle.promises.specs.Said.{Accepts, Numbered}
 use Rattle.promises.proofs.Demand1.{refused-writes-nothing, refused-edit-changes-nothing, refused-clear-changes-nothing, refused-add-changes-no-word, refused-sealing-writes-nothing}
 use Rattle.promises.proofs.Refusals.{picked, zero-accepts, accepts-zero, no-refusal-is-0}
@@ -85,9 +92,9 @@ frame-left f s h = let r = checked-refuses (checkedOf f) (leaves f s) h in refus
 
 -- ---- sealing and opening, of the packet that numbers stand for
 
-sealed-left : (k : List ℕ) (l : Lent) (f : Flat) (out : List ℕ) → (numberIn (meshSays (flatSealed k l f out)) ≡ 0 → ⊥) → outOf (flatSeal k l f) out ≡ out
-unfolding flatSealed flatSeal outOf
-sealed-left k l f out h = by (meshFrom f) h where
+sealed-left : (k : List ℕ) (l : Lent) (ns out : List ℕ) → (numberIn (meshSays (numbersSealed k l ns out)) ≡ 0 → ⊥) → outOf (numbersSeal k l ns) out ≡ out
+unfolding numbersSealed numbersSeal outOf
+sealed-left k l ns out h = by (meshFrom ns (pos 0) (pos 0)) h where
   by : (r : MeshRead) → (numberIn (meshSays (ifMesh (λ (p : MeshPacket). meshSealed k l p (p .payload) out) NoMesh r)) ≡ 0 → ⊥)
       → outOf (ifMesh (λ (p : MeshPacket). sealOf k l (p .payload)) refused r) out ≡ out
   by (Mesh p) g = let r = refuses (meshSays (meshSealed k l p (p .payload) out)) g in refused-sealing-writes-nothing k l p (p .payload) out (r .0) (r .1)
@@ -130,9 +137,9 @@ packet-left key p (payload.Command u) f w h =
     let o = decryptOf key false (u .«relay_id») (u .timestamp) (u .commands) f w in
     body-left key false (u .«relay_id») (u .timestamp) (u .commands) f w (λ e. h (sym (command-number p u o) ∙ e))
 
-work-left : (k : List ℕ) (f : Flat) (frame work : List ℕ) → (openedNumber (meshOpenedSays (flatDecrypted k f frame work)) ≡ 0 → ⊥) → flatWork k f frame work ≡ work
-unfolding flatDecrypted flatWork
-work-left k f frame work h = by (meshFrom f) h where
+work-left : (k ns frame work : List ℕ) → (openedNumber (meshOpenedSays (numbersDecrypted k ns frame work)) ≡ 0 → ⊥) → numbersWork k ns frame work ≡ work
+unfolding numbersDecrypted numbersWork
+work-left k ns frame work h = by (meshFrom ns (pos 0) (pos 0)) h where
   by : (r : MeshRead) → (openedNumber (meshOpenedSays (ifMesh (λ (p : MeshPacket). meshDecrypted k p (p .payload) frame work) NotOpened r)) ≡ 0 → ⊥)
       → ifMesh (λ (p : MeshPacket). meshWork k (p .payload) frame work) (λ (n : ℕ). work) r ≡ work
   by (Mesh p) g = packet-left k p (p .payload) frame work g
@@ -143,39 +150,46 @@ counts-left old (value (told v o)) h = absurd (h refl)
 counts-left old (value wasOpen) h = refl
 counts-left old (number n) h = refl
 
-place-left : (old : List ℕ) (a : Answer (Told MeshPacket)) → (openedNumber a ≡ 0 → ⊥) → placeLeft old a ≡ old
-place-left old (value (told v o)) h = absurd (h refl)
-place-left old (value wasOpen) h = refl
-place-left old (number n) h = refl
+numbers-left : (ns : List ℕ) (a : Answer (Told MeshPacket)) → (openedNumber a ≡ 0 → ⊥) → openedLeft ns a ≡ ns
+numbers-left old (value (told v o)) h = absurd (h refl)
+numbers-left old (value wasOpen) h = refl
+numbers-left old (number n) h = refl
 
 -- ---- the cache
 
 clear-left : (size : ℕ) (w : List ℕ) → (checkedNumber (clearAnswer size) ≡ 0 → ⊥) → clearWords size w ≡ w
 clear-left size w h = let r = checked-refuses (clearAnswer size) size h in refused-clear-changes-nothing size w (r .0) (r .1)
 
-words-left : (w : List ℕ) (id time relay : ℕ) (t : TypeRead) → (numberIn (addSays (cacheAnswer w id time relay t)) ≡ 0 → ⊥) → cacheWords w id time relay t ≡ w
-words-left w id time relay (Kind t) h = let r = refuses (addSays (cacheAnswer w id time relay (Kind t))) h in refused-add-changes-no-word w (rec t id time relay) (r .0) (r .1)
-words-left w id time relay (NoKind n) h = refl
+words-left : (w rs : List ℕ) → (numberIn (addSays (cacheAnswer w rs)) ≡ 0 → ⊥) → cacheWords w rs ≡ w
+unfolding cacheAnswer cacheWords
+words-left w rs h = by (recordWide rs) (typeRead (getD rs 0 0)) h where
+  typed : (t : TypeRead) → (numberIn (addSays (answerBy w rs t)) ≡ 0 → ⊥) → wordsBy w rs t ≡ w
+  typed (Kind t) g = let r = refuses (addSays (answerBy w rs (Kind t))) g in refused-add-changes-no-word w (recordFrom rs t) (r .0) (r .1)
+  typed (NoKind n) g = refl
+
+  by : (b : Bool) (t : TypeRead) → (numberIn (addSays (pick b (NotAdded typeLarge) (answerBy w rs t))) ≡ 0 → ⊥) → pick b w (wordsBy w rs t) ≡ w
+  by true t g = refl
+  by false t g = typed t g
 
 -- ---- whatever number other than 0 a call of the face answers, what it was lent is as before
 
 pub record Unchanged : Type 1 where
-  -- what is stored of a value: a header, a byte, hertz, a packet's numbers, its rssi and snr, a MIC, whether it is valid, a place that was
-  -- sealed, counts, an item, how many entries, an entry, a length, a key, a record, whether it is new
+  -- what is stored of a value: a header, a byte, hertz, a packet's numbers (also those that are signed or sealed in place), its rssi and snr,
+  -- whether it is valid, counts, an item, how many entries, an entry, a length, a key, a record, whether it is new
   pub stored : {A : Type 0} → {B : Type 0} → (f : A → B) (old : B) (a : Answer A) → (numberIn a ≡ 0 → ⊥) → leftBy f old a ≡ old
   -- the output of every call that writes, and of `mesh_stream`
   pub output : (f : Frame) (out : List ℕ) → (numberIn (writtenSays (answerOf f out)) ≡ 0 → ⊥) → outOf f out ≡ out
   -- the frame of `mesh_set_hop_count`
   pub frame : (f : Frame) (s : List ℕ) → (checkedNumber (checkedOf f) ≡ 0 → ⊥) → leaves f s ≡ s
   -- the output of `mesh_seal`
-  pub sealed-output : (k : List ℕ) (l : Lent) (f : Flat) (out : List ℕ) → (numberIn (meshSays (flatSealed k l f out)) ≡ 0 → ⊥) → outOf (flatSeal k l f) out ≡ out
-  -- the work buffer of `mesh_decrypt`; its counts and place, and those of `mesh_decode`, which answers 255 too
-  pub work : (k : List ℕ) (f : Flat) (frame work : List ℕ) → (openedNumber (meshOpenedSays (flatDecrypted k f frame work)) ≡ 0 → ⊥) → flatWork k f frame work ≡ work
+  pub sealed-output : (k : List ℕ) (l : Lent) (ns out : List ℕ) → (numberIn (meshSays (numbersSealed k l ns out)) ≡ 0 → ⊥) → outOf (numbersSeal k l ns) out ≡ out
+  -- the work buffer of `mesh_decrypt`; its counts and numbers, and those of `mesh_decode`, which answers 255 too
+  pub work : (k ns frame work : List ℕ) → (openedNumber (meshOpenedSays (numbersDecrypted k ns frame work)) ≡ 0 → ⊥) → numbersWork k ns frame work ≡ work
   pub counts : {A : Type 0} (old : List ℕ) (a : Answer (Told A)) → (openedNumber a ≡ 0 → ⊥) → countsLeft old a ≡ old
-  pub place : (old : List ℕ) (a : Answer (Told MeshPacket)) → (openedNumber a ≡ 0 → ⊥) → placeLeft old a ≡ old
+  pub numbers : (ns : List ℕ) (a : Answer (Told MeshPacket)) → (openedNumber a ≡ 0 → ⊥) → openedLeft ns a ≡ ns
   -- the words of `mesh_cache_clear` and `mesh_cache_add`
   pub cleared-words : (size : ℕ) (w : List ℕ) → (checkedNumber (clearAnswer size) ≡ 0 → ⊥) → clearWords size w ≡ w
-  pub added-words : (w : List ℕ) (id time relay : ℕ) (t : TypeRead) → (numberIn (addSays (cacheAnswer w id time relay t)) ≡ 0 → ⊥) → cacheWords w id time relay t ≡ w
+  pub added-words : (w rs : List ℕ) → (numberIn (addSays (cacheAnswer w rs)) ≡ 0 → ⊥) → cacheWords w rs ≡ w
 
 pub refused-face-changes-nothing : Unchanged
 refused-face-changes-nothing =
@@ -186,7 +200,7 @@ refused-face-changes-nothing =
       sealed-output = sealed-left;
       work = work-left;
       counts = counts-left;
-      place = place-left;
+      numbers = numbers-left;
       cleared-words = clear-left;
       added-words = words-left;
     }
@@ -200,118 +214,131 @@ header-numbered : (hops : ℕ) (t : TypeRead) → Numbered (typeSays t) → Numb
 header-numbered hops (Kind t) s = no-refusal-is-0 .header-to-byte (record { «payload_type» = t; «hop_count» = hops })
 header-numbered hops (NoKind n) s = s
 
-uplink-numbered : (r : UplinkRead) → Numbered (uplinkSays r) → Numbered (meshSays (bareUplink r))
-uplink-numbered (uplink.Payload p) s = tt
-uplink-numbered (uplink.Refused n) s = s
+payloadSays : PayloadRead → Answer Payload
+payloadSays (body.Payload p) = value p
+payloadSays (body.Refused n) = number n
 
-downlink-numbered : (r : DownlinkRead) → Numbered (downlinkSays r) → Numbered (meshSays (bareDownlink r))
-downlink-numbered (downlink.Payload p) s = tt
-downlink-numbered (downlink.Refused n) s = s
+around-numbered : (h : MHDR) (has : Bool) (mic : ℕ) (r : PayloadRead) → Numbered (payloadSays r) → Numbered (meshSays (around h has mic r))
+around-numbered h has mic (body.Payload p) s = tt
+around-numbered h has mic (body.Refused n) s = s
 
-event-numbered : (r : EventRead) → Numbered (eventSays r) → Numbered (meshSays (bareEvent r))
-event-numbered (event.Payload p) s = tt
-event-numbered (event.Refused n) s = s
-
-command-numbered : (r : CommandRead) → Numbered (commandSays r) → Numbered (meshSays (bareCommand r))
-command-numbered (command.Payload p) s = tt
-command-numbered (command.Refused n) s = s
+body-read-numbered : (t : PayloadType) (b : List ℕ) → Numbered (payloadSays (bodyRead 0 t b))
+unfolding bodyRead
+body-read-numbered type.Uplink b = by (uplinkAt 0 b) (no-refusal-is-0 .uplink-from-slice 0 b) where
+  by : (r : UplinkRead) → Numbered (uplinkSays r) → Numbered (payloadSays (ofUplink r))
+  by (uplink.Payload p) s = tt
+  by (uplink.Refused n) s = s
+body-read-numbered type.Downlink b = by (downlinkAt 0 b) (no-refusal-is-0 .downlink-from-slice 0 b) where
+  by : (r : DownlinkRead) → Numbered (downlinkSays r) → Numbered (payloadSays (ofDownlink r))
+  by (downlink.Payload p) s = tt
+  by (downlink.Refused n) s = s
+body-read-numbered type.Event b = by (eventAt 0 b) (no-refusal-is-0 .event-from-slice 0 b) where
+  by : (r : EventRead) → Numbered (eventSays r) → Numbered (payloadSays (ofEvent r))
+  by (event.Payload p) s = tt
+  by (event.Refused n) s = s
+body-read-numbered type.Command b = by (commandAt 0 b) (no-refusal-is-0 .command-from-slice 0 b) where
+  by : (r : CommandRead) → Numbered (commandSays r) → Numbered (payloadSays (ofCommand r))
+  by (command.Payload p) s = tt
+  by (command.Refused n) s = s
 
 bare-numbered : (b : List ℕ) (t : TypeRead) → Numbered (typeSays t) → Numbered (meshSays (bareBy b t))
-unfolding bareOf
 bare-numbered b (NoKind n) s = s
-bare-numbered b (Kind type.Uplink) s = uplink-numbered (uplinkAt 0 b) (no-refusal-is-0 .uplink-from-slice 0 b)
-bare-numbered b (Kind type.Downlink) s = downlink-numbered (downlinkAt 0 b) (no-refusal-is-0 .downlink-from-slice 0 b)
-bare-numbered b (Kind type.Event) s = event-numbered (eventAt 0 b) (no-refusal-is-0 .event-from-slice 0 b)
-bare-numbered b (Kind type.Command) s = command-numbered (commandAt 0 b) (no-refusal-is-0 .command-from-slice 0 b)
+bare-numbered b (Kind t) s = around-numbered _ _ _ (bodyRead 0 t b) (body-read-numbered t b)
 
-mesh-numbered : (f : Flat) → Numbered (meshSays (meshFrom f))
-unfolding meshFrom
-mesh-numbered f = picked meshSays (strangeBody (f .kind) (f .body)) _ _ (omega arith) (by (typeRead (f .kind)) (type-numbered (f .kind))) where
-  typed : (k : PayloadType) (t : TypeRead) → Numbered (typeSays t) → Numbered (meshSays (typedBy f k t))
-  typed k (Kind t) s = tt
-  typed k (NoKind n) s = s
+module _ (ns : List ℕ) (rssi snr : ℤ) where
+  mesh-numbered : Numbered (meshSays (meshFrom ns rssi snr))
+  unfolding meshFrom
+  mesh-numbered =
+      picked meshSays (tooWide ns) _ _ (omega arith)
+      (picked meshSays (strangeBody ns) _ _ (omega arith) (by (typeRead (getD ns 0 0)) (type-numbered (getD ns 0 0)))) where
+        typed : (k : PayloadType) (t : TypeRead) → Numbered (typeSays t) → Numbered (meshSays (typedBy ns rssi snr k t))
+        typed k (Kind t) s = tt
+        typed k (NoKind n) s = s
 
-  by : (t : TypeRead) → Numbered (typeSays t) → Numbered (meshSays (kindBy f t))
-  by (Kind k) s = typed k (typeRead (f .«payload_type»)) (type-numbered (f .«payload_type»))
-  by (NoKind n) s = s
+        by : (t : TypeRead) → Numbered (typeSays t) → Numbered (meshSays (kindBy ns rssi snr t))
+        by (Kind k) s = typed k (typeRead (getD ns 1 0)) (type-numbered (getD ns 1 0))
+        by (NoKind n) s = s
 
-packet-numbered : (f : Flat) → Numbered (packetSays (packetFrom f))
-unfolding packetFrom
-packet-numbered f = picked packetSays (eqb (f .kind) 4) _ _ tt (by (meshFrom f) (mesh-numbered f)) where
-  by : (r : MeshRead) → Numbered (meshSays r) → Numbered (packetSays (ofMesh r))
-  by (Mesh p) s = tt
-  by (NoMesh n) s = s
+  packet-numbered : Numbered (packetSays (packetFrom ns rssi snr))
+  unfolding packetFrom
+  packet-numbered =
+      picked packetSays (tooWide ns) _ _ (omega arith) (picked packetSays (eqb (getD ns 0 0) 4) _ _ tt (by (meshFrom ns rssi snr) mesh-numbered)) where
+        by : (r : MeshRead) → Numbered (meshSays r) → Numbered (packetSays (ofMesh r))
+        by (Mesh p) s = tt
+        by (NoMesh n) s = s
 
-module _ (l : Lent) (f : Flat) (out : List ℕ) where
-  written-numbered : Numbered (writtenSays (answerOf (flatFrame l f) out))
-  unfolding flatFrame answerOf
-  written-numbered = by (packetFrom f) (packet-numbered f) where
+module _ (l : Lent) (ns : List ℕ) (rssi snr : ℤ) (out : List ℕ) where
+  written-numbered : Numbered (writtenSays (answerOf (numbersFrame l ns rssi snr) out))
+  unfolding numbersFrame answerOf
+  written-numbered = by (packetFrom ns rssi snr) (packet-numbered ns rssi snr) where
     by : (r : PacketRead) → Numbered (packetSays r) → Numbered (writtenSays (answerOf (ifPacket (packetFrame l) refused r) out))
     by (packet.Packet p) s = no-refusal-is-0 .packet-write l p out
     by (packet.Refused n) s = s
 
-  body-numbered : Numbered (writtenSays (answerOf (flatBody l f) out))
-  unfolding flatBody answerOf
-  body-numbered = by (meshFrom f) (mesh-numbered f) where
+  body-numbered : Numbered (writtenSays (answerOf (numbersBody l ns rssi snr) out))
+  unfolding numbersBody answerOf
+  body-numbered = by (meshFrom ns rssi snr) (mesh-numbered ns rssi snr) where
     by : (r : MeshRead) → Numbered (meshSays r) → Numbered (writtenSays (answerOf (ifMesh (λ (p : MeshPacket). limitedOf (payloadWire l (p .payload))) refused r) out))
     by (Mesh p) s = no-refusal-is-0 .body-write l (p .payload) out
     by (NoMesh n) s = s
 
-  sealed-numbered : (k : List ℕ) → Numbered (meshSays (flatSealed k l f out))
-  unfolding flatSealed
-  sealed-numbered k = by (meshFrom f) (mesh-numbered f) where
-    by : (r : MeshRead) → Numbered (meshSays r) → Numbered (meshSays (ifMesh (λ (p : MeshPacket). meshSealed k l p (p .payload) out) NoMesh r))
-    by (Mesh p) s = no-refusal-is-0 .mesh-encrypt k l p (p .payload) out
-    by (NoMesh n) s = s
+sealed-numbered : (k : List ℕ) (l : Lent) (ns out : List ℕ) → Numbered (meshSays (numbersSealed k l ns out))
+unfolding numbersSealed
+sealed-numbered k l ns out = by (meshFrom ns (pos 0) (pos 0)) (mesh-numbered ns (pos 0) (pos 0)) where
+  by : (r : MeshRead) → Numbered (meshSays r) → Numbered (meshSays (ifMesh (λ (p : MeshPacket). meshSealed k l p (p .payload) out) NoMesh r))
+  by (Mesh p) s = no-refusal-is-0 .mesh-encrypt k l p (p .payload) out
+  by (NoMesh n) s = s
 
-module _ (E : List ℕ → List ℕ) (l : Lent) (f : Flat) where
-  signed-numbered : Numbered (meshSays (flatSigned E l f))
-  unfolding flatSigned
-  signed-numbered = by (meshFrom f) (mesh-numbered f) where
+module _ (E : List ℕ → List ℕ) (l : Lent) (ns : List ℕ) (rssi snr : ℤ) where
+  signed-numbered : Numbered (meshSays (numbersSigned E l ns rssi snr))
+  unfolding numbersSigned
+  signed-numbered = by (meshFrom ns rssi snr) (mesh-numbered ns rssi snr) where
     by : (r : MeshRead) → Numbered (meshSays r) → Numbered (meshSays (ifMesh (setMic E l) NoMesh r))
     by (Mesh p) s = no-refusal-is-0 .set-mic E l p
     by (NoMesh n) s = s
 
-  valid-numbered : Numbered (validSays (flatValid E l f))
-  unfolding flatValid
-  valid-numbered = by (meshFrom f) (mesh-numbered f) where
+  valid-numbered : Numbered (validSays (numbersValid E l ns rssi snr))
+  unfolding numbersValid
+  valid-numbered = by (meshFrom ns rssi snr) (mesh-numbered ns rssi snr) where
     by : (r : MeshRead) → Numbered (meshSays r) → Numbered (validSays (ifMesh (validateMic E l) NotValidated r))
     by (Mesh p) s = no-refusal-is-0 .validate-mic E l p
     by (NoMesh n) s = s
 
-module _ (f : Flat) (frame work : List ℕ) where
-  decrypted-numbered : (k : List ℕ) → Numbered (meshOpenedSays (flatDecrypted k f frame work))
-  unfolding flatDecrypted
-  decrypted-numbered k = by (meshFrom f) (mesh-numbered f) where
+module _ (ns frame work : List ℕ) where
+  decrypted-numbered : (k : List ℕ) → Numbered (meshOpenedSays (numbersDecrypted k ns frame work))
+  unfolding numbersDecrypted
+  decrypted-numbered k = by (meshFrom ns (pos 0) (pos 0)) (mesh-numbered ns (pos 0) (pos 0)) where
     by : (r : MeshRead) → Numbered (meshSays r) → Numbered (meshOpenedSays (ifMesh (λ (p : MeshPacket). meshDecrypted k p (p .payload) frame work) NotOpened r))
     by (Mesh p) s = no-refusal-is-0 .mesh-decrypt k p (p .payload) frame work
     by (NoMesh n) s = s
 
-  decoded-numbered : Numbered (meshOpenedSays (flatDecoded f frame work))
-  unfolding flatDecoded
-  decoded-numbered = by (meshFrom f) (mesh-numbered f) where
+  decoded-numbered : Numbered (meshOpenedSays (numbersDecoded ns frame work))
+  unfolding numbersDecoded
+  decoded-numbered = by (meshFrom ns (pos 0) (pos 0)) (mesh-numbered ns (pos 0) (pos 0)) where
     by : (r : MeshRead) → Numbered (meshSays r) → Numbered (meshOpenedSays (ifMesh (λ (p : MeshPacket). meshDecoded p (p .payload) frame work) NotOpened r))
     by (Mesh p) s = no-refusal-is-0 .mesh-decode p (p .payload) frame work
     by (NoMesh n) s = s
 
-added-numbered : (w : List ℕ) (id time relay : ℕ) (t : TypeRead) → Numbered (typeSays t) → Numbered (addSays (cacheAnswer w id time relay t))
-added-numbered w id time relay (Kind t) s = no-refusal-is-0 .words-add w (rec t id time relay)
-added-numbered w id time relay (NoKind n) s = s
+added-numbered : (w rs : List ℕ) → Numbered (addSays (cacheAnswer w rs))
+unfolding cacheAnswer
+added-numbered w rs = picked addSays (recordWide rs) _ _ (omega arith) (by (typeRead (getD rs 0 0)) (type-numbered (getD rs 0 0))) where
+  by : (t : TypeRead) → Numbered (typeSays t) → Numbered (addSays (answerBy w rs t))
+  by (Kind t) s = no-refusal-is-0 .words-add w (recordFrom rs t)
+  by (NoKind n) s = s
 
--- the exported calls whose answers are not those of `NoZero` as they stand, and `Flat::packet`
+-- the exported calls whose answers are not those of `NoZero` as they stand
 pub record NoZeroForC : Type 0 where
   pub mesh-header-write : (hops n : ℕ) → Numbered (byteSays (headerByteBy hops (typeRead n)))
   pub mesh-read-body : (b : List ℕ) (n : ℕ) → Numbered (meshSays (bareBy b (typeRead n)))
-  pub mesh-write : (l : Lent) (f : Flat) (out : List ℕ) → Numbered (writtenSays (answerOf (flatFrame l f) out))
-  pub mesh-write-body : (l : Lent) (f : Flat) (out : List ℕ) → Numbered (writtenSays (answerOf (flatBody l f) out))
-  pub mesh-sign : (E : List ℕ → List ℕ) (l : Lent) (f : Flat) → Numbered (meshSays (flatSigned E l f))
-  pub mesh-validate : (E : List ℕ → List ℕ) (l : Lent) (f : Flat) → Numbered (validSays (flatValid E l f))
-  pub mesh-seal : (k : List ℕ) (l : Lent) (f : Flat) (out : List ℕ) → Numbered (meshSays (flatSealed k l f out))
-  pub mesh-decrypt : (k : List ℕ) (f : Flat) (frame work : List ℕ) → Numbered (meshOpenedSays (flatDecrypted k f frame work))
-  pub mesh-decode : (f : Flat) (frame work : List ℕ) → Numbered (meshOpenedSays (flatDecoded f frame work))
-  pub mesh-record : (f : Flat) → Numbered (meshSays (meshFrom f))
-  pub flat-packet : (f : Flat) → Numbered (packetSays (packetFrom f))
-  pub mesh-cache-add : (w : List ℕ) (id time relay n : ℕ) → Numbered (addSays (cacheAnswer w id time relay (typeRead n)))
+  pub mesh-write : (l : Lent) (ns : List ℕ) (rssi snr : ℤ) (out : List ℕ) → Numbered (writtenSays (answerOf (numbersFrame l ns rssi snr) out))
+  pub mesh-write-body : (l : Lent) (ns : List ℕ) (rssi snr : ℤ) (out : List ℕ) → Numbered (writtenSays (answerOf (numbersBody l ns rssi snr) out))
+  pub mesh-sign : (E : List ℕ → List ℕ) (l : Lent) (ns : List ℕ) (rssi snr : ℤ) → Numbered (meshSays (numbersSigned E l ns rssi snr))
+  pub mesh-validate : (E : List ℕ → List ℕ) (l : Lent) (ns : List ℕ) (rssi snr : ℤ) → Numbered (validSays (numbersValid E l ns rssi snr))
+  pub mesh-seal : (k : List ℕ) (l : Lent) (ns out : List ℕ) → Numbered (meshSays (numbersSealed k l ns out))
+  pub mesh-decrypt : (k ns frame work : List ℕ) → Numbered (meshOpenedSays (numbersDecrypted k ns frame work))
+  pub mesh-decode : (ns frame work : List ℕ) → Numbered (meshOpenedSays (numbersDecoded ns frame work))
+  pub mesh-record : (ns : List ℕ) → Numbered (meshSays (meshFrom ns (pos 0) (pos 0)))
+  pub mesh-cache-add : (w rs : List ℕ) → Numbered (addSays (cacheAnswer w rs))
 
 pub no-refusal-is-0-for-c : NoZeroForC
 no-refusal-is-0-for-c =
@@ -322,20 +349,51 @@ no-refusal-is-0-for-c =
       mesh-write-body = body-numbered;
       mesh-sign = signed-numbered;
       mesh-validate = valid-numbered;
-      mesh-seal = λ k l f out. sealed-numbered l f out k;
-      mesh-decrypt = λ k f frame work. decrypted-numbered f frame work k;
+      mesh-seal = sealed-numbered;
+      mesh-decrypt = λ k ns frame work. decrypted-numbered ns frame work k;
       mesh-decode = decoded-numbered;
-      mesh-record = mesh-numbered;
-      flat-packet = packet-numbered;
-      mesh-cache-add = λ w id time relay n. added-numbered w id time relay (typeRead n) (type-numbered n);
+      mesh-record = λ ns. mesh-numbered ns (pos 0) (pos 0);
+      mesh-cache-add = added-numbered;
     }
 
--- 29 of a body that is none, of an event or a command, before all else that its numbers say
-pub strange-body-refused : (f : Flat) → 1 < f .kind → 4 < f .body
-    → (meshSays (meshFrom f) ≡ number typeLarge) × ((f .kind ≡ 4 → ⊥) → packetSays (packetFrom f) ≡ number typeLarge)
-unfolding meshFrom strangeBody packetFrom
-strange-body-refused f k b =
-    (simp (le-ltb (f .kind) 2 k, lt-ltb 4 (f .body) b), λ n. simp (ne-eqb (f .kind) 4 n, le-ltb (f .kind) 2 k, lt-ltb 4 (f .body) b))
+-- 29 of numbers that are no packet, before all else that they say: a MIC, relay id or timestamp over 32 bits and a channel over 8, whatever the
+-- kind, and a body that is none, of an event or a command
+pub wide-refused : (ns : List ℕ) (rssi snr : ℤ) → tooWide ns ≡ true
+    → (meshSays (meshFrom ns rssi snr) ≡ number typeLarge) × (packetSays (packetFrom ns rssi snr) ≡ number typeLarge)
+unfolding meshFrom packetFrom
+wide-refused ns rssi snr h = (simp h, simp h)
+
+-- so a relay id is never taken by its low half
+pub relay-id-whole : (ns : List ℕ) (rssi snr : ℤ) → relayIdMost < getD ns 5 0 → packetSays (packetFrom ns rssi snr) ≡ number typeLarge
+unfolding tooWide
+relay-id-whole ns rssi snr h = wide-refused ns rssi snr (by (ltb micMost (getD ns 4 0))) .1 where
+  by : (t : Bool) → pick t true (pick (ltb relayIdMost (getD ns 5 0)) true (pick (ltb channelMost (getD ns 8 0)) true (ltb timestampMost (getD ns 12 0)))) ≡ true
+  by true = refl
+  by false = simp (lt-ltb relayIdMost (getD ns 5 0) h)
+
+strange-mesh : (ns : List ℕ) (rssi snr : ℤ) → 1 < getD ns 0 0 → 4 < getD ns 13 0 → meshSays (meshFrom ns rssi snr) ≡ number typeLarge
+unfolding meshFrom strangeBody
+strange-mesh ns rssi snr k b = by (tooWide ns) where
+  by : (t : Bool) → meshSays (pick t (NoMesh typeLarge) (pick (strangeBody ns) (NoMesh typeLarge) (kindBy ns rssi snr (typeRead (getD ns 0 0))))) ≡ number typeLarge
+  by true = refl
+  by false = simp (le-ltb (getD ns 0 0) 2 k, lt-ltb 4 (getD ns 13 0) b)
+
+of-mesh : (r : MeshRead) → meshSays r ≡ number typeLarge → packetSays (ofMesh r) ≡ number typeLarge
+of-mesh (Mesh p) e = absurd (let z : _≡_ {A = ℕ} 0 1 = cc in omega arith)
+of-mesh (NoMesh n) e = cc
+
+strange-packet : (ns : List ℕ) (rssi snr : ℤ) → (getD ns 0 0 ≡ 4 → ⊥) → meshSays (meshFrom ns rssi snr) ≡ number typeLarge
+    → packetSays (packetFrom ns rssi snr) ≡ number typeLarge
+unfolding packetFrom
+strange-packet ns rssi snr n m = by (tooWide ns) where
+  by : (t : Bool)
+      → packetSays (pick t (packet.Refused typeLarge) (pick (eqb (getD ns 0 0) 4) (packet.Packet (Lora (runFrom ns))) (ofMesh (meshFrom ns rssi snr)))) ≡ number typeLarge
+  by true = refl
+  by false = simp (ne-eqb (getD ns 0 0) 4 n) (of-mesh (meshFrom ns rssi snr) m)
+
+pub strange-body-refused : (ns : List ℕ) (rssi snr : ℤ) → 1 < getD ns 0 0 → 4 < getD ns 13 0
+    → (meshSays (meshFrom ns rssi snr) ≡ number typeLarge) × ((getD ns 0 0 ≡ 4 → ⊥) → packetSays (packetFrom ns rssi snr) ≡ number typeLarge)
+strange-body-refused ns rssi snr k b = (strange-mesh ns rssi snr k b, λ n. strange-packet ns rssi snr n (strange-mesh ns rssi snr k b))
 
 -- so each of the three ways in which the face gives its number is 0 exactly if the call accepted
 pub zero-is-success : {A : Type 0} (a : Answer A) → Numbered a → (numberIn a ≡ 0 → Accepts a) × (Accepts a → numberIn a ≡ 0)

@@ -1,18 +1,19 @@
 -- `mesh_c::frame::known_time` meets its contract. Assumes nothing.
-use Rattle.base.proofs.Picks.{picks}
+use borrow.Author.Tests.{lt-ltb, le-ltb}
 use Rattle.mesh_c.specs.inner.Known.{knownTime}
+use borrow.Author.Needs.{needs}
 use Rattle.mesh_c.proofs.frame.known_time.Statement.{statement}
 use Rattle.mesh_c.proofs.frame.known_time.Tie as tie
 
 returns : tie.Need-returns
 unfolding knownTime
 returns c =
-    search picks
+    simp (lt-ltb _ _ (c .if1 .taken))
 
 returns-2 : tie.Need-returns-2
 unfolding knownTime
 returns-2 c =
-    search picks
+    simp (le-ltb _ _ (c .if1 .left))
 
 pub known-time-spec : {M : Type 1} → statement M
-known-time-spec = tie.close (tie.spec returns returns-2)
+known-time-spec = tie.close (tie.spec (λ c. search needs) returns returns-2)

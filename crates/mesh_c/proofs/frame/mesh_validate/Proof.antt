@@ -1,39 +1,39 @@
 -- `mesh_c::frame::mesh_validate` meets its contract. Assumes nothing.
 use mathlib.Core.Path.{sym, ap, _∙_}
-use mir.Facts.{toZ-ofZ}
 use denote.Ref.{now}
+use mir.Facts.{toZ-ofZ}
 use Rattle.base.specs.Answers.{numberIn, leftBy}
 use Rattle.fips197.specs.Aes.{aes}
 use Rattle.aes128.specs.declared.Aes128Key.{Aes128Key}
 use Rattle.bodies.specs.Body.{lent}
 use Rattle.mic.specs.Mic.{validSays}
 use Rattle.mic.specs.declared.Validated.{Validated}
-use Rattle.flat.specs.Flat.{bit}
-use Rattle.mesh_c.specs.Face.{flatBy, flatValid}
+use Rattle.numbers.specs.Numbers.{bit}
+use Rattle.mesh_c.specs.Face.{numbersValid}
 use borrow.Author.Needs.{needs}
 use Rattle.mesh_c.proofs.frame.mesh_validate.Statement.{statement}
 use Rattle.mesh_c.proofs.frame.mesh_validate.Tie as tie
 
 returns : tie.Need-returns
 returns c =
-    let a = c .before .before .before .before .before .before .before .before .args in
-    let s = sym (c .enum-told .given .1) ∙ rw (toZ-ofZ (c .before .before .before .before .before .before .before .before .fits .rssi), toZ-ofZ (c .before .before .before .before .before .before .before .before .fits .snr)) at (c .before .before .validate-flat .ensures) ∙ ap (λ (k : Aes128Key). flatValid (aes (k .0)) (lent (now (a .frame)) (now (a .work)) (now (a .kinds)) (now (a .spans)) (now (a .ids)) (now (a .rssis)) (now (a .snrs))) (flatBy (a .kind) (a .payload-type) (a .hop-count) (a .has-mic) (a .mic) (a .relay-id) (a .uplink-id) (a .dr) (a .rssi) (a .snr) (a .channel) (a .frequency) (a .tx-power) (a .delay) (a .timestamp) (a .body) (a .start) (a .len))) (c .before .before .before .from-bytes .ensures) in (
+    let a = (c .before .before .before .before .before .before .before .before .args) in
+    let s = sym (c .enum-told .given .1) ∙ (rw (toZ-ofZ (c .before .before .before .before .before .before .before .before .fits .rssi), toZ-ofZ (c .before .before .before .before .before .before .before .before .fits .snr)) at (c .before .before .validate-numbers .ensures)) ∙ ap (λ (k : Aes128Key). numbersValid (aes (k .0)) (lent (now (a .frame)) (now (a .work)) (now (a .kinds)) (now (a .spans)) (now (a .ids)) (now (a .rssis)) (now (a .snrs))) (now (a .numbers)) (a .rssi) (a .snr)) (c .before .before .before .from-bytes .ensures) in (
       ap (λ (v : Validated). numberIn (validSays v)) s,
       ap (λ (v : Validated). leftBy bit (now (a .valid)) (validSays v)) s,
     )
 
 returns-2 : tie.Need-returns-2
 returns-2 c =
-    let a = c .before .before .before .before .before .before .before .before .args in
-    let s = sym (c .enum-told2 .given .1) ∙ rw (toZ-ofZ (c .before .before .before .before .before .before .before .before .fits .rssi), toZ-ofZ (c .before .before .before .before .before .before .before .before .fits .snr)) at (c .before .before .validate-flat .ensures) ∙ ap (λ (k : Aes128Key). flatValid (aes (k .0)) (lent (now (a .frame)) (now (a .work)) (now (a .kinds)) (now (a .spans)) (now (a .ids)) (now (a .rssis)) (now (a .snrs))) (flatBy (a .kind) (a .payload-type) (a .hop-count) (a .has-mic) (a .mic) (a .relay-id) (a .uplink-id) (a .dr) (a .rssi) (a .snr) (a .channel) (a .frequency) (a .tx-power) (a .delay) (a .timestamp) (a .body) (a .start) (a .len))) (c .before .before .before .from-bytes .ensures) in (
+    let a = (c .before .before .before .before .before .before .before .before .args) in
+    let s = sym (c .enum-told2 .given .1) ∙ (rw (toZ-ofZ (c .before .before .before .before .before .before .before .before .fits .rssi), toZ-ofZ (c .before .before .before .before .before .before .before .before .fits .snr)) at (c .before .before .validate-numbers .ensures)) ∙ ap (λ (k : Aes128Key). numbersValid (aes (k .0)) (lent (now (a .frame)) (now (a .work)) (now (a .kinds)) (now (a .spans)) (now (a .ids)) (now (a .rssis)) (now (a .snrs))) (now (a .numbers)) (a .rssi) (a .snr)) (c .before .before .before .from-bytes .ensures) in (
       ap (λ (v : Validated). numberIn (validSays v)) s,
       ap (λ (v : Validated). leftBy bit (now (a .valid)) (validSays v)) s,
     )
 
 returns-3 : tie.Need-returns-3
 returns-3 c =
-    let a = c .before .before .before .before .before .before .before .before .before .args in
-    let s = sym (c .before .n .given .1) ∙ rw (toZ-ofZ (c .before .before .before .before .before .before .before .before .before .fits .rssi), toZ-ofZ (c .before .before .before .before .before .before .before .before .before .fits .snr)) at (c .before .before .before .validate-flat .ensures) ∙ ap (λ (k : Aes128Key). flatValid (aes (k .0)) (lent (now (a .frame)) (now (a .work)) (now (a .kinds)) (now (a .spans)) (now (a .ids)) (now (a .rssis)) (now (a .snrs))) (flatBy (a .kind) (a .payload-type) (a .hop-count) (a .has-mic) (a .mic) (a .relay-id) (a .uplink-id) (a .dr) (a .rssi) (a .snr) (a .channel) (a .frequency) (a .tx-power) (a .delay) (a .timestamp) (a .body) (a .start) (a .len))) (c .before .before .before .before .from-bytes .ensures) in (
+    let a = (c .before .before .before .before .before .before .before .before .before .args) in
+    let s = sym (c .before .n .given .1) ∙ (rw (toZ-ofZ (c .before .before .before .before .before .before .before .before .before .fits .rssi), toZ-ofZ (c .before .before .before .before .before .before .before .before .before .fits .snr)) at (c .before .before .before .validate-numbers .ensures)) ∙ ap (λ (k : Aes128Key). numbersValid (aes (k .0)) (lent (now (a .frame)) (now (a .work)) (now (a .kinds)) (now (a .spans)) (now (a .ids)) (now (a .rssis)) (now (a .snrs))) (now (a .numbers)) (a .rssi) (a .snr)) (c .before .before .before .before .from-bytes .ensures) in (
       ap (λ (v : Validated). numberIn (validSays v)) s,
       ap (λ (v : Validated). leftBy bit (now (a .valid)) (validSays v)) s,
     )

@@ -1,7 +1,7 @@
 -- `mesh_c::frame::mesh_write` meets its contract. Assumes nothing.
 use mathlib.Core.Path.{ap, _∙_}
-use mir.Facts.{toZ-ofZ}
 use denote.Ref.{now}
+use mir.Facts.{toZ-ofZ}
 use Rattle.base.specs.Answers.{numberIn, leftBy, writtenSays}
 use Rattle.base.specs.declared.Written.{Written}
 use Rattle.mesh_c.specs.Face.{asItIs}
@@ -11,9 +11,9 @@ use Rattle.mesh_c.proofs.frame.mesh_write.Tie as tie
 
 returns : tie.Need-returns
 returns c =
-    let a = c .before .before .before .before .before .before .before .before .before .before .args in
+    let a = (c .before .before .before .before .before .before .before .before .before .before .args) in
     let w = c .put-length .ensures in
-    let s = rw (toZ-ofZ (c .before .before .before .before .before .before .before .before .before .before .fits .rssi), toZ-ofZ (c .before .before .before .before .before .before .before .before .before .before .fits .snr)) at (c .before .before .before .before .write-packet .ensures) in (
+    let s = rw (toZ-ofZ (c .before .before .before .before .before .before .before .before .before .before .fits .rssi), toZ-ofZ (c .before .before .before .before .before .before .before .before .before .before .fits .snr)) at (c .before .before .before .before .write-numbers .ensures) in (
       w .0 ∙ ap (λ (x : Written). numberIn (writtenSays x)) (s .0),
       (
         s .1,

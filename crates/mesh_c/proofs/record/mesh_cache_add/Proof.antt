@@ -2,7 +2,7 @@
 use mathlib.Core.Path.{sym, ap, _∙_}
 use denote.Ref.{now}
 use Rattle.base.specs.Answers.{numberIn, leftBy}
-use Rattle.flat.specs.Flat.{bit}
+use Rattle.numbers.specs.Numbers.{bit}
 use Rattle.cache.specs.Cache.{addSays}
 use Rattle.cache.specs.declared.ring.CacheAnswer.{CacheAnswer}
 use borrow.Author.Needs.{needs}
@@ -11,7 +11,7 @@ use Rattle.mesh_c.proofs.record.mesh_cache_add.Tie as tie
 
 returns : tie.Need-returns
 returns c =
-    let a = c .before .before .before .before .args in
+    let a = (c .before .before .before .before .args) in
     let w = c .before .before .add-record .ensures in
     let s = sym (c .enum-told .given .1) ∙ w .0 in (
       ap (λ (x : CacheAnswer). numberIn (addSays x)) s,
@@ -23,7 +23,7 @@ returns c =
 
 returns-2 : tie.Need-returns-2
 returns-2 c =
-    let a = c .before .before .before .before .args in
+    let a = (c .before .before .before .before .args) in
     let w = c .before .before .add-record .ensures in
     let s = sym (c .enum-told2 .given .1) ∙ w .0 in (
       ap (λ (x : CacheAnswer). numberIn (addSays x)) s,
@@ -35,7 +35,7 @@ returns-2 c =
 
 returns-3 : tie.Need-returns-3
 returns-3 c =
-    let a = c .before .before .before .before .before .args in
+    let a = (c .before .before .before .before .before .args) in
     let w = c .before .before .before .add-record .ensures in
     let s = sym (c .before .n .given .1) ∙ w .0 in (
       ap (λ (x : CacheAnswer). numberIn (addSays x)) s,
