@@ -6,6 +6,8 @@ use lib.IntN.{ℤ}
 use Rattle.base.proofs.Outcome.{Fixed}
 use Rattle.numbers.proofs.from_bool.Kinds as from-bool-kinds
 use Rattle.numbers.proofs.from_bool.Reads as from-bool-reads
+use Rattle.numbers.proofs.back.to_u8.Kinds as to-u8-kinds
+use Rattle.numbers.proofs.back.to_u8.Reads as to-u8-reads
 use Rattle.numbers.proofs.back.to_u16.Kinds as to-u16-kinds
 use Rattle.numbers.proofs.back.to_u16.Reads as to-u16-reads
 use Rattle.numbers.proofs.back.to_u32.Kinds as to-u32-kinds
@@ -24,8 +26,6 @@ use Rattle.numbers.proofs.back.put_place.Kinds as put-place-kinds
 use Rattle.numbers.proofs.back.put_place.Reads as put-place-reads
 use Rattle.numbers.proofs.read.read_bare.Kinds as read-bare-kinds
 use Rattle.numbers.proofs.read.read_bare.Reads as read-bare-reads
-use Rattle.numbers.proofs.read.read_mesh_numbers.Kinds as read-mesh-numbers-kinds
-use Rattle.numbers.proofs.read.read_mesh_numbers.Reads as read-mesh-numbers-reads
 use Rattle.numbers.proofs.read.read_numbers.Kinds as read-numbers-kinds
 use Rattle.numbers.proofs.read.read_numbers.Reads as read-numbers-reads
 use Rattle.numbers.proofs.write.write_numbers.Kinds as write-numbers-kinds
@@ -33,6 +33,9 @@ use Rattle.numbers.proofs.write.write_numbers.Reads as write-numbers-re
 
 from-bool : Fixed 0 from-bool-kinds.ps from-bool-kinds.r from-bool-reads.Post
 from-bool κs a x y v w p q = (p ∙ sym q, refl)
+
+to-u8 : Fixed 0 to-u8-kinds.ps to-u8-kinds.r to-u8-reads.Post
+to-u8 κs a x y v w p q = (p ∙ sym q, refl)
 
 to-u16 : Fixed 0 to-u16-kinds.ps to-u16-kinds.r to-u16-reads.Post
 to-u16 κs a x y v w p q = (p ∙ sym q, refl)
@@ -63,13 +66,6 @@ read-bare κs a x y v w p q = (
   p .0 ∙ sym (q .0),
   ap (λ (a : List ℕ). (tt, (tt, (a, (v .1 .1 .1 .0, (v .1 .1 .1 .1 .0, tt)))))) (p .1 .0 ∙ sym (q .1 .0))
       ∙ ap₂ (λ (b : ℤ) (c : ℤ). (tt, (tt, (w .1 .1 .0, (b, (c, tt)))))) (p .1 .1 .0 ∙ sym (q .1 .1 .0)) (p .1 .1 .1 ∙ sym (q .1 .1 .1)),
-)
-
-read-mesh-numbers : Fixed 4 read-mesh-numbers-kinds.ps read-mesh-numbers-kinds.r read-mesh-numbers-reads.Post
-read-mesh-numbers κs a x y v w p q = (
-  p .0 ∙ sym (q .0),
-  ap (λ (a : List ℕ). (tt, (a, (v .1 .1 .0, (v .1 .1 .1 .0, tt))))) (p .1 .0 ∙ sym (q .1 .0))
-      ∙ ap₂ (λ (b : ℤ) (c : ℤ). (tt, (w .1 .0, (b, (c, tt))))) (p .1 .1 .0 ∙ sym (q .1 .1 .0)) (p .1 .1 .1 ∙ sym (q .1 .1 .1)),
 )
 
 read-numbers : Fixed 4 read-numbers-kinds.ps read-numbers-kinds.r read-numbers-reads.Post

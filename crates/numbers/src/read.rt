@@ -1,5 +1,6 @@
 // A frame read straight into numbers: no packet stands between the bytes and what is stored.
 ghost use mathlib.Core.Path.{_≡_};
+ghost use mathlib.Core.Bool.{false};
 ghost use Rattle.base.specs.Answers.{numberIn, leftBy};
 ghost use Rattle.fields.specs.Header.{typeRead};
 ghost use Rattle.packets.specs.Read.{packetSays, packetOf, meshSays, meshOf};
@@ -208,7 +209,86 @@ fn read_body(
     }
 }
 
-// A body alone: 29, 5, 4 with nothing changed, or 0. It has no header and no MIC: hop count 0 and none stand for them.
+// The same of a body that stands alone: it has no header and no MIC, for which hop count 0 and none stand. A function of its own, since the
+// compiler takes one that has one caller into that, and reading a frame is to have no calls.
+fn read_alone(
+    t: PayloadType,
+    body: &[u8],
+    numbers: &mut [u64; 16],
+    rssi: &mut i16,
+    snr: &mut i8,
+) -> u8
+    ensures answer { λ r. ⌜ r ≡ numberIn (meshSays (around (record { «payload_type» = t; «hop_count» = 0 }) false 0 (bodyRead 0 t (now (body .entry))))) ⌝ }
+    ensures numbers { λ _. ⌜ now (numbers .exit) ≡ leftBy meshNumbers (now (numbers .entry)) (meshSays (around (record { «payload_type» = t; «hop_count» = 0 }) false 0 (bodyRead 0 t (now (body .entry))))) ⌝ }
+    ensures rssi { λ _. ⌜ now (rssi .exit) ≡ leftBy meshRssi (now (rssi .entry)) (meshSays (around (record { «payload_type» = t; «hop_count» = 0 }) false 0 (bodyRead 0 t (now (body .entry))))) ⌝ }
+    ensures snr { λ _. ⌜ now (snr .exit) ≡ leftBy meshSnr (now (snr .entry)) (meshSays (around (record { «payload_type» = t; «hop_count» = 0 }) false 0 (bodyRead 0 t (now (body .entry))))) ⌝ }
+{
+    let mhdr = MHDR {
+        payload_type: t,
+        hop_count: 0,
+    };
+    match t {
+        PayloadType::Uplink => match UplinkPayload::from_slice(body) {
+            UplinkRead::Refused(n) => n,
+            UplinkRead::Payload(u) => {
+                let m = u.metadata;
+                let strength = m.rssi;
+                let ratio = m.snr;
+                *numbers = uplink_numbers(mhdr, false, 0, u);
+                *rssi = strength;
+                *snr = ratio;
+                0
+            }
+        },
+        PayloadType::Downlink => match DownlinkPayload::from_slice(body) {
+            DownlinkRead::Refused(n) => n,
+            DownlinkRead::Payload(u) => {
+                *numbers = downlink_numbers(mhdr, false, 0, u);
+                *rssi = 0;
+                *snr = 0;
+                0
+            }
+        },
+        PayloadType::Event => match EventPayload::from_slice(body) {
+            EventRead::Refused(n) => n,
+            EventRead::Payload(u) => {
+                let b = u.events;
+                *numbers = stamped_numbers(
+                    PayloadType::EVENT,
+                    mhdr,
+                    false,
+                    0,
+                    u.timestamp,
+                    u.relay_id,
+                    b,
+                );
+                *rssi = 0;
+                *snr = 0;
+                0
+            }
+        },
+        PayloadType::Command => match CommandPayload::from_slice(body) {
+            CommandRead::Refused(n) => n,
+            CommandRead::Payload(u) => {
+                let b = u.commands;
+                *numbers = stamped_numbers(
+                    PayloadType::COMMAND,
+                    mhdr,
+                    false,
+                    0,
+                    u.timestamp,
+                    u.relay_id,
+                    b,
+                );
+                *rssi = 0;
+                *snr = 0;
+                0
+            }
+        },
+    }
+}
+
+// A body alone: 29, 5, 4 with nothing changed, or 0.
 pub fn read_bare(kind: u8, b: &[u8], numbers: &mut [u64; 16], rssi: &mut i16, snr: &mut i8) -> u8
     ensures answer { λ r. ⌜ r ≡ numberIn (meshSays (bareBy (now (b .entry)) (typeRead kind))) ⌝ }
     ensures numbers { λ _. ⌜ now (numbers .exit) ≡ leftBy meshNumbers (now (numbers .entry)) (meshSays (bareBy (now (b .entry)) (typeRead kind))) ⌝ }
@@ -217,20 +297,14 @@ pub fn read_bare(kind: u8, b: &[u8], numbers: &mut [u64; 16], rssi: &mut i16, sn
 {
     match PayloadType::from_byte(kind) {
         TypeRead::Refused(n) => n,
-        TypeRead::Kind(payload_type) => {
-            let mhdr = MHDR {
-                payload_type,
-                hop_count: 0,
-            };
-            read_body(mhdr, false, 0, 0, b, numbers, rssi, snr)
-        }
+        TypeRead::Kind(t) => read_alone(t, b, numbers, rssi, snr),
     }
 }
 
 // ---- frames
 
 // A mesh frame: 1, 5, 2, 3, 4 with nothing changed, or 0.
-pub fn read_mesh_numbers(frame: &[u8], numbers: &mut [u64; 16], rssi: &mut i16, snr: &mut i8) -> u8
+fn read_mesh(frame: &[u8], numbers: &mut [u64; 16], rssi: &mut i16, snr: &mut i8) -> u8
     ensures answer { λ r. ⌜ r ≡ numberIn (meshSays (meshOf (now (frame .entry)))) ⌝ }
     ensures numbers { λ _. ⌜ now (numbers .exit) ≡ leftBy meshNumbers (now (numbers .entry)) (meshSays (meshOf (now (frame .entry)))) ⌝ }
     ensures rssi { λ _. ⌜ now (rssi .exit) ≡ leftBy meshRssi (now (rssi .entry)) (meshSays (meshOf (now (frame .entry)))) ⌝ }
@@ -271,7 +345,7 @@ pub fn read_numbers(frame: &[u8], numbers: &mut [u64; 16], rssi: &mut i16, snr: 
         return Refusal::FRAME_LONG;
     }
     if frame[0] / 32 == MHDR::MARK {
-        return read_mesh_numbers(frame, numbers, rssi, snr);
+        return read_mesh(frame, numbers, rssi, snr);
     }
     *numbers = [
         Code::LORA as u64,

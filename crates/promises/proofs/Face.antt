@@ -250,21 +250,21 @@ module _ (ns : List ℕ) (rssi snr : ℤ) where
   mesh-numbered =
       picked meshSays (tooWide ns) _ _ (omega arith)
       (picked meshSays (strangeBody ns) _ _ (omega arith) (by (typeRead (getD ns 0 0)) (type-numbered (getD ns 0 0)))) where
-    typed : (k : PayloadType) (t : TypeRead) → Numbered (typeSays t) → Numbered (meshSays (typedBy ns rssi snr k t))
-    typed k (Kind t) s = tt
-    typed k (NoKind n) s = s
+        typed : (k : PayloadType) (t : TypeRead) → Numbered (typeSays t) → Numbered (meshSays (typedBy ns rssi snr k t))
+        typed k (Kind t) s = tt
+        typed k (NoKind n) s = s
 
-    by : (t : TypeRead) → Numbered (typeSays t) → Numbered (meshSays (kindBy ns rssi snr t))
-    by (Kind k) s = typed k (typeRead (getD ns 1 0)) (type-numbered (getD ns 1 0))
-    by (NoKind n) s = s
+        by : (t : TypeRead) → Numbered (typeSays t) → Numbered (meshSays (kindBy ns rssi snr t))
+        by (Kind k) s = typed k (typeRead (getD ns 1 0)) (type-numbered (getD ns 1 0))
+        by (NoKind n) s = s
 
   packet-numbered : Numbered (packetSays (packetFrom ns rssi snr))
   unfolding packetFrom
   packet-numbered =
       picked packetSays (tooWide ns) _ _ (omega arith) (picked packetSays (eqb (getD ns 0 0) 4) _ _ tt (by (meshFrom ns rssi snr) mesh-numbered)) where
-    by : (r : MeshRead) → Numbered (meshSays r) → Numbered (packetSays (ofMesh r))
-    by (Mesh p) s = tt
-    by (NoMesh n) s = s
+        by : (r : MeshRead) → Numbered (meshSays r) → Numbered (packetSays (ofMesh r))
+        by (Mesh p) s = tt
+        by (NoMesh n) s = s
 
 module _ (l : Lent) (ns : List ℕ) (rssi snr : ℤ) (out : List ℕ) where
   written-numbered : Numbered (writtenSays (answerOf (numbersFrame l ns rssi snr) out))

@@ -1,10 +1,10 @@
--- `numbers::read::read_mesh_numbers` meets its contract. Assumes nothing.
+-- `numbers::read::read_mesh` meets its contract. Assumes nothing.
 use mathlib.Core.Path.{sym, _∙_}
 use denote.Ref.{now}
 use Rattle.numbers.proofs.Steps.{kept, same, mesh-empty, mesh-long, mesh-short, no-header, with-header}
 use borrow.Author.Needs.{needs}
-use Rattle.numbers.proofs.read.read_mesh_numbers.Statement.{statement}
-use Rattle.numbers.proofs.read.read_mesh_numbers.Tie as tie
+use Rattle.numbers.proofs.read.read_mesh.Statement.{statement}
+use Rattle.numbers.proofs.read.read_mesh.Tie as tie
 
 returns : tie.Need-returns
 returns c =
@@ -26,5 +26,5 @@ returns-5 : tie.Need-returns-5
 returns-5 c =
     same _ _ _ _ _ _ _ _ _ (with-header (now (c .before .before .before .before .before .before .before .before .before .before .before .before .before .before .before .before .before .before .before .args .frame)) (c .before .before .before .before .before .before .before .before .before .before .before .before .before .before .before .before .before .if1 .left) (c .before .before .before .before .before .before .before .before .before .before .before .before .before .before .before .before .if2 .left) (c .before .before .before .before .before .before .before .before .before .before .before .before .before .before .before .if3 .left) _ _ (sym (c .before .before .before .before .before .before .before .before .before .before .before .mhdr .given .1) ∙ c .before .before .before .before .before .before .before .before .before .before .before .before .before .from-byte .ensures) (c .before .before .before .before .before .be32-of .ensures)) (c .read-body .ensures)
 
-pub read-mesh-numbers-spec : {M : Type 1} → statement M
-read-mesh-numbers-spec = tie.close (tie.spec returns returns-2 returns-3 (λ c. search needs) (λ c κs. search needs) (λ c. search needs) (λ c. search needs) (λ c. search needs) (λ c. search needs) (λ c. search needs) (λ c. search needs) (λ c. search needs) (λ c. search needs) (λ c. search needs) (λ c. search needs) (λ c κs. search needs) (λ c. search needs) (λ c. search needs) (λ c. search needs) (λ c κs. search needs) returns-4 returns-5)
+pub read-mesh-spec : {M : Type 1} → statement M
+read-mesh-spec = tie.close (tie.spec returns returns-2 returns-3 (λ c. search needs) (λ c κs. search needs) (λ c. search needs) (λ c. search needs) (λ c. search needs) (λ c. search needs) (λ c. search needs) (λ c. search needs) (λ c. search needs) (λ c. search needs) (λ c. search needs) (λ c. search needs) (λ c κs. search needs) (λ c. search needs) (λ c. search needs) (λ c. search needs) (λ c κs. search needs) returns-4 returns-5)

@@ -1,0 +1,30 @@
+-- `mesh_c::frame::mesh_read_mesh` meets its contract. Assumes nothing.
+use denote.Ref.{now}
+use Rattle.packets.specs.Read.{meshOf}
+use Rattle.numbers.proofs.Steps.{kept, any-mesh, mesh-empty, mesh-long, mesh-short, not-mesh, mesh}
+use borrow.Author.Needs.{needs}
+use Rattle.mesh_c.proofs.frame.mesh_read_mesh.Statement.{statement}
+use Rattle.mesh_c.proofs.frame.mesh_read_mesh.Tie as tie
+
+returns : tie.Need-returns
+returns c =
+    kept _ 1 _ _ _ (mesh-empty (now (c .before .before .args .frame)) (c .if1 .taken))
+
+returns-2 : tie.Need-returns-2
+returns-2 c =
+    kept _ 5 _ _ _ (mesh-long (now (c .before .before .before .args .frame)) (c .before .if1 .left) (c .if2 .taken))
+
+returns-3 : tie.Need-returns-3
+returns-3 c =
+    kept _ 2 _ _ _ (mesh-short (now (c .before .before .before .before .args .frame)) (c .before .before .if1 .left) (c .before .if2 .left) (c .if3 .taken))
+
+returns-4 : tie.Need-returns-4
+returns-4 c =
+    kept _ 3 _ _ _ (not-mesh (now (c .before .before .before .before .before .before .args .frame)) (c .before .before .before .before .if1 .left) (c .before .before .before .if2 .left) (c .before .before .if3 .left) (c .if4 .taken))
+
+returns-5 : tie.Need-returns-5
+returns-5 c =
+    any-mesh _ (meshOf (now (c .before .before .before .before .before .before .before .before .before .before .args .frame))) _ _ _ _ _ _ _ (mesh (now (c .before .before .before .before .before .before .before .before .before .before .args .frame)) (c .before .before .before .before .before .before .before .before .if1 .left) (c .before .before .before .before .before .before .before .if2 .left) (c .before .before .before .before .if4 .left)) (c .mesh-read .ensures)
+
+pub mesh-read-mesh-spec : {M : Type 1} → statement M
+mesh-read-mesh-spec = tie.close (tie.spec returns returns-2 returns-3 (λ c. search needs) returns-4 (λ c κs. search needs) returns-5)
