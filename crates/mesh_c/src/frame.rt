@@ -19,10 +19,8 @@ use crate::item::counts_of;
 use crate::item::put_length;
 use aes128::Aes128Key;
 use base::Checked;
-use base::Limit;
 use base::Refusal;
 use base::Written;
-use fields::MHDR;
 use fields::PayloadType;
 use hops::set_hop_count;
 use mic::Validated;
@@ -32,6 +30,7 @@ use numbers::mesh_of;
 use numbers::put_mic;
 use numbers::put_place;
 use numbers::read_bare;
+use numbers::read_mesh_numbers;
 use numbers::read_numbers;
 use numbers::strange_body;
 use numbers::to_u16;
@@ -39,7 +38,6 @@ use numbers::to_u32;
 use numbers::too_wide;
 use numbers::write_numbers;
 use packets::MeshOpened;
-use packets::MeshPacket;
 use packets::MeshRead;
 use packets::Payload;
 
@@ -61,7 +59,7 @@ pub extern "C" fn mesh_read(
     read_numbers(frame, numbers, rssi, snr)
 }
 
-// A mesh frame: 1, 5, 2, 3, 4. It calls `mesh_read`, so that the reader of any frame has one caller and is taken into that.
+// A mesh frame: 1, 5, 2, 3, 4.
 #[no_mangle]
 pub extern "C" fn mesh_read_mesh(
     frame: &[u8],
@@ -74,20 +72,7 @@ pub extern "C" fn mesh_read_mesh(
     ensures rssi { λ _. ⌜ now (rssi .exit) ≡ leftBy meshRssi (now (rssi .entry)) (meshSays (meshOf (now (frame .entry)))) ⌝ }
     ensures snr { λ _. ⌜ now (snr .exit) ≡ leftBy meshSnr (now (snr .entry)) (meshSays (meshOf (now (frame .entry)))) ⌝ }
 {
-    let n = frame.len();
-    if n == 0 {
-        return Refusal::FRAME_EMPTY;
-    }
-    if Limit::FRAME < n {
-        return Refusal::FRAME_LONG;
-    }
-    if n < MeshPacket::LEAST {
-        return Refusal::FRAME_SHORT;
-    }
-    if frame[0] / 32 != MHDR::MARK {
-        return Refusal::NOT_MESH;
-    }
-    mesh_read(frame, numbers, rssi, snr)
+    read_mesh_numbers(frame, numbers, rssi, snr)
 }
 
 // A body alone: 29, 5, 4.

@@ -26,6 +26,8 @@ use Rattle.numbers.proofs.back.put_place.Kinds as put-place-kinds
 use Rattle.numbers.proofs.back.put_place.Reads as put-place-reads
 use Rattle.numbers.proofs.read.read_bare.Kinds as read-bare-kinds
 use Rattle.numbers.proofs.read.read_bare.Reads as read-bare-reads
+use Rattle.numbers.proofs.read.read_mesh_numbers.Kinds as read-mesh-numbers-kinds
+use Rattle.numbers.proofs.read.read_mesh_numbers.Reads as read-mesh-numbers-reads
 use Rattle.numbers.proofs.read.read_numbers.Kinds as read-numbers-kinds
 use Rattle.numbers.proofs.read.read_numbers.Reads as read-numbers-reads
 use Rattle.numbers.proofs.write.write_numbers.Kinds as write-numbers-kinds
@@ -66,6 +68,13 @@ read-bare κs a x y v w p q = (
   p .0 ∙ sym (q .0),
   ap (λ (a : List ℕ). (tt, (tt, (a, (v .1 .1 .1 .0, (v .1 .1 .1 .1 .0, tt)))))) (p .1 .0 ∙ sym (q .1 .0))
       ∙ ap₂ (λ (b : ℤ) (c : ℤ). (tt, (tt, (w .1 .1 .0, (b, (c, tt)))))) (p .1 .1 .0 ∙ sym (q .1 .1 .0)) (p .1 .1 .1 ∙ sym (q .1 .1 .1)),
+)
+
+read-mesh-numbers : Fixed 4 read-mesh-numbers-kinds.ps read-mesh-numbers-kinds.r read-mesh-numbers-reads.Post
+read-mesh-numbers κs a x y v w p q = (
+  p .0 ∙ sym (q .0),
+  ap (λ (a : List ℕ). (tt, (a, (v .1 .1 .0, (v .1 .1 .1 .0, tt))))) (p .1 .0 ∙ sym (q .1 .0))
+      ∙ ap₂ (λ (b : ℤ) (c : ℤ). (tt, (w .1 .0, (b, (c, tt))))) (p .1 .1 .0 ∙ sym (q .1 .1 .0)) (p .1 .1 .1 ∙ sym (q .1 .1 .1)),
 )
 
 read-numbers : Fixed 4 read-numbers-kinds.ps read-numbers-kinds.r read-numbers-reads.Post

@@ -12,7 +12,6 @@ use Rattle.fields.specs.declared.header.MHDR.{MHDR}
 use Rattle.fields.specs.declared.header.PayloadType.{PayloadType}
 use Rattle.fields.specs.declared.header.PayloadType.the-variants.{Uplink, Downlink, Event, Command}
 use Rattle.fields.specs.declared.header.HeaderRead.the-variants.{Header, Refused as NoHeader}
-use Rattle.fields.proofs.Laws.Header.{not-marked}
 use Rattle.bodies.specs.declared.body.Held.the-variants.{Frame as InFrame, Work as InWork}
 use Rattle.bodies.specs.declared.body.Body.{Body}
 use Rattle.bodies.specs.declared.body.Body.the-variants.{Empty, Sealed, Open, Items}
@@ -123,9 +122,6 @@ module _ (s : List ℕ) where
         unfolding meshOf
         by-header = simp (ne-eqb (length s) 0 e, le-ltb 8192 (length s) l, le-ltb (length s) 5 h)
 
-        pub not-mesh : (getD s 0 0 / 32 ≡ 7 → ⊥) → meshOf s ≡ Refused 3
-        not-mesh m = by-header ∙ ap (withHeader s) (not-marked (getD s 0 0) m)
-
         pub no-header : (n : ℕ) → NoHeader n ≡ headerOf (getD s 0 0) → meshOf s ≡ Refused n
         no-header n q = by-header ∙ ap (withHeader s) (sym q)
 
@@ -172,10 +168,3 @@ pub stamped-is : (kind : ℕ) (h : MHDR) (has : Bool) (mic relay time : ℕ) (b 
     ≡ listed kind h has mic (stampedFields relay time) (bodyPlace b)
 stamped-is kind h has mic relay time b t f p x y e =
     rw (x, y, e) (ap (listed kind h has mic (stampedFields relay time)) (three b))
-
--- of a mesh frame, what is said of any frame
-pub any-mesh : (p : PacketRead) (m : MeshRead) (xs : List ℕ) (r z : ℤ) (n : ℕ) (ys : List ℕ) (r' z' : ℤ) → p ≡ ofMesh m
-    → LeftAny p xs r z n ys r' z' → Left m xs r z n ys r' z'
-unfolding numbersIn rssiIn snrIn
-any-mesh p (Mesh q) xs r z n ys r' z' e a = rw e at a
-any-mesh p (Refused k) xs r z n ys r' z' e a = rw e at a

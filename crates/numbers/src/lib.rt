@@ -17,6 +17,7 @@ pub use back::to_u16;
 pub use back::to_u32;
 pub use back::too_wide;
 pub use read::read_bare;
+pub use read::read_mesh_numbers;
 pub use read::read_numbers;
 pub use write::write_numbers;
 
