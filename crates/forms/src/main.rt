@@ -10,6 +10,10 @@ use bodies::Held;
 use cache::Cache;
 use cache::CacheAnswer;
 use cache::PayloadCache;
+use events::CommandPayload;
+use events::CommandRead;
+use events::EventPayload;
+use events::EventRead;
 use fields::Channel;
 use fields::Dr;
 use fields::Frequency;
@@ -30,6 +34,10 @@ use items::ItemRead;
 use libc::STDOUT_FILENO;
 use packets::MeshPacket;
 use packets::MeshRead;
+use payloads::DownlinkPayload;
+use payloads::DownlinkRead;
+use payloads::UplinkPayload;
+use payloads::UplinkRead;
 use wire::Run;
 use wire::be16_bytes;
 use wire::be16_of;
@@ -265,6 +273,32 @@ fn recorded(label: &[u8], frame: &[u8]) {
     }
 }
 
+// A body alone: its relay id.
+fn bodies() {
+    let meta = b"\x12\x35\x50\x07\x02\x0a\x0b\x0c\x0d\x40";
+    match UplinkPayload::from_slice(meta) {
+        UplinkRead::Payload(p) => plain(b"relay id of an uplink    ", p.relay_id as u64),
+        UplinkRead::Refused(n) => plain(b"refused                  ", n as u64),
+    }
+    say(b"\n");
+    match DownlinkPayload::from_slice(meta) {
+        DownlinkRead::Payload(p) => plain(b"relay id of a downlink   ", p.relay_id as u64),
+        DownlinkRead::Refused(n) => plain(b"refused                  ", n as u64),
+    }
+    say(b"\n");
+    let stamped = b"\x00\x00\x00\x3c\x0a\x0b\x0c";
+    match EventPayload::from_slice(stamped) {
+        EventRead::Payload(p) => plain(b"relay id of an event     ", p.relay_id as u64),
+        EventRead::Refused(n) => plain(b"an event of seven bytes  ", n as u64),
+    }
+    say(b"\n");
+    match CommandPayload::from_slice(stamped) {
+        CommandRead::Payload(p) => plain(b"relay id of a command    ", p.relay_id as u64),
+        CommandRead::Refused(n) => plain(b"a command of seven bytes ", n as u64),
+    }
+    say(b"\n");
+}
+
 fn packets() {
     recorded(
         b"record of an uplink      ",
@@ -328,6 +362,7 @@ fn main() {
     entries();
     values();
     packets();
+    bodies();
     limits();
     two_bytes();
 }

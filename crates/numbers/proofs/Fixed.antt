@@ -6,6 +6,8 @@ use lib.IntN.{ℤ}
 use Rattle.base.proofs.Outcome.{Fixed}
 use Rattle.numbers.proofs.from_bool.Kinds as from-bool-kinds
 use Rattle.numbers.proofs.from_bool.Reads as from-bool-reads
+use Rattle.numbers.proofs.back.to_u8.Kinds as to-u8-kinds
+use Rattle.numbers.proofs.back.to_u8.Reads as to-u8-reads
 use Rattle.numbers.proofs.back.to_u16.Kinds as to-u16-kinds
 use Rattle.numbers.proofs.back.to_u16.Reads as to-u16-reads
 use Rattle.numbers.proofs.back.to_u32.Kinds as to-u32-kinds
@@ -33,6 +35,9 @@ use Rattle.numbers.proofs.write.write_numbers.Reads as write-numbers-re
 
 from-bool : Fixed 0 from-bool-kinds.ps from-bool-kinds.r from-bool-reads.Post
 from-bool κs a x y v w p q = (p ∙ sym q, refl)
+
+to-u8 : Fixed 0 to-u8-kinds.ps to-u8-kinds.r to-u8-reads.Post
+to-u8 κs a x y v w p q = (p ∙ sym q, refl)
 
 to-u16 : Fixed 0 to-u16-kinds.ps to-u16-kinds.r to-u16-reads.Post
 to-u16 κs a x y v w p q = (p ∙ sym q, refl)

@@ -29,7 +29,7 @@ use wire::Run;
 
 // ---- a number as a field holds it: one that is wider counts as the largest, and is never cut to its low bits
 
-pub(crate) fn to_u8(n: u64) -> u8
+pub fn to_u8(n: u64) -> u8
     ensures { λ r. ⌜ r ≡ atMost 255 n ⌝ }
 {
     if 255 < n {

@@ -12,6 +12,7 @@ pub use back::put_mic;
 pub use back::put_place;
 pub use back::strange_body;
 pub use back::to_type;
+pub use back::to_u8;
 pub use back::to_u16;
 pub use back::to_u32;
 pub use back::too_wide;

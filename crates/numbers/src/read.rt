@@ -208,29 +208,10 @@ fn read_body(
     }
 }
 
-// A body alone: 29, 5, 4 with nothing changed, or 0. It has no header and no MIC: hop count 0 and none stand for them.
-pub fn read_bare(kind: u8, b: &[u8], numbers: &mut [u64; 16], rssi: &mut i16, snr: &mut i8) -> u8
-    ensures answer { λ r. ⌜ r ≡ numberIn (meshSays (bareBy (now (b .entry)) (typeRead kind))) ⌝ }
-    ensures numbers { λ _. ⌜ now (numbers .exit) ≡ leftBy meshNumbers (now (numbers .entry)) (meshSays (bareBy (now (b .entry)) (typeRead kind))) ⌝ }
-    ensures rssi { λ _. ⌜ now (rssi .exit) ≡ leftBy meshRssi (now (rssi .entry)) (meshSays (bareBy (now (b .entry)) (typeRead kind))) ⌝ }
-    ensures snr { λ _. ⌜ now (snr .exit) ≡ leftBy meshSnr (now (snr .entry)) (meshSays (bareBy (now (b .entry)) (typeRead kind))) ⌝ }
-{
-    match PayloadType::from_byte(kind) {
-        TypeRead::Refused(n) => n,
-        TypeRead::Kind(payload_type) => {
-            let mhdr = MHDR {
-                payload_type,
-                hop_count: 0,
-            };
-            read_body(mhdr, false, 0, 0, b, numbers, rssi, snr)
-        }
-    }
-}
-
 // ---- frames
 
 // A mesh frame: 1, 5, 2, 3, 4 with nothing changed, or 0.
-pub fn read_mesh_numbers(frame: &[u8], numbers: &mut [u64; 16], rssi: &mut i16, snr: &mut i8) -> u8
+fn read_mesh(frame: &[u8], numbers: &mut [u64; 16], rssi: &mut i16, snr: &mut i8) -> u8
     ensures answer { λ r. ⌜ r ≡ numberIn (meshSays (meshOf (now (frame .entry)))) ⌝ }
     ensures numbers { λ _. ⌜ now (numbers .exit) ≡ leftBy meshNumbers (now (numbers .entry)) (meshSays (meshOf (now (frame .entry)))) ⌝ }
     ensures rssi { λ _. ⌜ now (rssi .exit) ≡ leftBy meshRssi (now (rssi .entry)) (meshSays (meshOf (now (frame .entry)))) ⌝ }
@@ -271,7 +252,7 @@ pub fn read_numbers(frame: &[u8], numbers: &mut [u64; 16], rssi: &mut i16, snr: 
         return Refusal::FRAME_LONG;
     }
     if frame[0] / 32 == MHDR::MARK {
-        return read_mesh_numbers(frame, numbers, rssi, snr);
+        return read_mesh(frame, numbers, rssi, snr);
     }
     *numbers = [
         Code::LORA as u64,
@@ -294,4 +275,130 @@ pub fn read_numbers(frame: &[u8], numbers: &mut [u64; 16], rssi: &mut i16, snr: 
     *rssi = 0;
     *snr = 0;
     0
+}
+
+// ---- the same of a mesh frame and of a body alone. The compiler takes a function that has one caller into that, so the two above serve reading
+// any frame alone, which then has no calls; these, which say the same, are for those who know what they read.
+
+fn read_part(
+    mhdr: MHDR,
+    has_mic: bool,
+    mic: u32,
+    at: u8,
+    body: &[u8],
+    numbers: &mut [u64; 16],
+    rssi: &mut i16,
+    snr: &mut i8,
+) -> u8
+    ensures answer { λ r. ⌜ r ≡ numberIn (meshSays (around mhdr «has_mic» mic (bodyRead at (mhdr .«payload_type») (now (body .entry))))) ⌝ }
+    ensures numbers { λ _. ⌜ now (numbers .exit) ≡ leftBy meshNumbers (now (numbers .entry)) (meshSays (around mhdr «has_mic» mic (bodyRead at (mhdr .«payload_type») (now (body .entry))))) ⌝ }
+    ensures rssi { λ _. ⌜ now (rssi .exit) ≡ leftBy meshRssi (now (rssi .entry)) (meshSays (around mhdr «has_mic» mic (bodyRead at (mhdr .«payload_type») (now (body .entry))))) ⌝ }
+    ensures snr { λ _. ⌜ now (snr .exit) ≡ leftBy meshSnr (now (snr .entry)) (meshSays (around mhdr «has_mic» mic (bodyRead at (mhdr .«payload_type») (now (body .entry))))) ⌝ }
+{
+    let t = mhdr.payload_type;
+    match t {
+        PayloadType::Uplink => match UplinkPayload::read_at(body, at) {
+            UplinkRead::Refused(n) => n,
+            UplinkRead::Payload(u) => {
+                let m = u.metadata;
+                let strength = m.rssi;
+                let ratio = m.snr;
+                *numbers = uplink_numbers(mhdr, has_mic, mic, u);
+                *rssi = strength;
+                *snr = ratio;
+                0
+            }
+        },
+        PayloadType::Downlink => match DownlinkPayload::read_at(body, at) {
+            DownlinkRead::Refused(n) => n,
+            DownlinkRead::Payload(u) => {
+                *numbers = downlink_numbers(mhdr, has_mic, mic, u);
+                *rssi = 0;
+                *snr = 0;
+                0
+            }
+        },
+        PayloadType::Event => match EventPayload::read_at(body, at) {
+            EventRead::Refused(n) => n,
+            EventRead::Payload(u) => {
+                let b = u.events;
+                *numbers = stamped_numbers(
+                    PayloadType::EVENT,
+                    mhdr,
+                    has_mic,
+                    mic,
+                    u.timestamp,
+                    u.relay_id,
+                    b,
+                );
+                *rssi = 0;
+                *snr = 0;
+                0
+            }
+        },
+        PayloadType::Command => match CommandPayload::read_at(body, at) {
+            CommandRead::Refused(n) => n,
+            CommandRead::Payload(u) => {
+                let b = u.commands;
+                *numbers = stamped_numbers(
+                    PayloadType::COMMAND,
+                    mhdr,
+                    has_mic,
+                    mic,
+                    u.timestamp,
+                    u.relay_id,
+                    b,
+                );
+                *rssi = 0;
+                *snr = 0;
+                0
+            }
+        },
+    }
+}
+
+// A body alone: 29, 5, 4 with nothing changed, or 0. It has no header and no MIC: hop count 0 and none stand for them.
+pub fn read_bare(kind: u8, b: &[u8], numbers: &mut [u64; 16], rssi: &mut i16, snr: &mut i8) -> u8
+    ensures answer { λ r. ⌜ r ≡ numberIn (meshSays (bareBy (now (b .entry)) (typeRead kind))) ⌝ }
+    ensures numbers { λ _. ⌜ now (numbers .exit) ≡ leftBy meshNumbers (now (numbers .entry)) (meshSays (bareBy (now (b .entry)) (typeRead kind))) ⌝ }
+    ensures rssi { λ _. ⌜ now (rssi .exit) ≡ leftBy meshRssi (now (rssi .entry)) (meshSays (bareBy (now (b .entry)) (typeRead kind))) ⌝ }
+    ensures snr { λ _. ⌜ now (snr .exit) ≡ leftBy meshSnr (now (snr .entry)) (meshSays (bareBy (now (b .entry)) (typeRead kind))) ⌝ }
+{
+    match PayloadType::from_byte(kind) {
+        TypeRead::Refused(n) => n,
+        TypeRead::Kind(payload_type) => {
+            let mhdr = MHDR {
+                payload_type,
+                hop_count: 0,
+            };
+            read_part(mhdr, false, 0, 0, b, numbers, rssi, snr)
+        }
+    }
+}
+
+// A mesh frame: 1, 5, 2, 3, 4 with nothing changed, or 0.
+pub fn read_mesh_numbers(frame: &[u8], numbers: &mut [u64; 16], rssi: &mut i16, snr: &mut i8) -> u8
+    ensures answer { λ r. ⌜ r ≡ numberIn (meshSays (meshOf (now (frame .entry)))) ⌝ }
+    ensures numbers { λ _. ⌜ now (numbers .exit) ≡ leftBy meshNumbers (now (numbers .entry)) (meshSays (meshOf (now (frame .entry)))) ⌝ }
+    ensures rssi { λ _. ⌜ now (rssi .exit) ≡ leftBy meshRssi (now (rssi .entry)) (meshSays (meshOf (now (frame .entry)))) ⌝ }
+    ensures snr { λ _. ⌜ now (snr .exit) ≡ leftBy meshSnr (now (snr .entry)) (meshSays (meshOf (now (frame .entry)))) ⌝ }
+{
+    let n = frame.len();
+    if n == 0 {
+        return Refusal::FRAME_EMPTY;
+    }
+    if Limit::FRAME < n {
+        return Refusal::FRAME_LONG;
+    }
+    if n < MeshPacket::LEAST {
+        return Refusal::FRAME_SHORT;
+    }
+    match MHDR::from_byte(frame[0]) {
+        HeaderRead::Refused(k) => k,
+        HeaderRead::Header(mhdr) => {
+            let end = n - 4;
+            let mic = be32_of(frame[end], frame[end + 1], frame[end + 2], frame[end + 3]);
+            read_part(mhdr, true, mic, 1, &frame[1..end], numbers, rssi, snr)
+        }
+    }
 }

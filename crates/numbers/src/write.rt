@@ -1,7 +1,6 @@
 // The packet that numbers stand for, written.
 ghost use mathlib.Core.Path.{_≡_};
 ghost use Rattle.base.specs.Answers.{answerOf, outOf};
-ghost use Rattle.fields.specs.declared.header.MHDR.{MHDR};
 ghost use Rattle.bodies.specs.Body.{lent};
 ghost use Rattle.payloads.specs.Write.{uplinkWire, prefixed, withMic};
 ghost use Rattle.numbers.specs.Numbers.{numbersFrame};

@@ -214,7 +214,7 @@ header-numbered : (hops : ℕ) (t : TypeRead) → Numbered (typeSays t) → Numb
 header-numbered hops (Kind t) s = no-refusal-is-0 .header-to-byte (record { «payload_type» = t; «hop_count» = hops })
 header-numbered hops (NoKind n) s = s
 
-payloadSays : PayloadRead → Answer Payload
+abbrev payloadSays : PayloadRead → Answer Payload
 payloadSays (body.Payload p) = value p
 payloadSays (body.Refused n) = number n
 

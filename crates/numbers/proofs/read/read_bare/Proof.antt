@@ -13,7 +13,7 @@ returns c =
 
 returns-2 : tie.Need-returns-2
 returns-2 c =
-    same _ _ _ _ _ _ _ _ _ (ap (bareBy (now (c .before .before .before .before .before .before .before .before .before .args .b))) (sym (c .before .before .before .before .before .before .before .from-byte .ensures) ∙ c .before .before .before .before .before .payload-type .given .1)) (c .read-body .ensures)
+    same _ _ _ _ _ _ _ _ _ (ap (bareBy (now (c .before .before .before .before .before .before .before .before .before .args .b))) (sym (c .before .before .before .before .before .before .before .from-byte .ensures) ∙ c .before .before .before .before .before .payload-type .given .1)) (c .read-part .ensures)
 
 pub read-bare-spec : {M : Type 1} → statement M
 read-bare-spec = tie.close (tie.spec (λ c κs. search needs) (λ c. search needs) (λ c. search needs) (λ c κs. search needs) returns returns-2)

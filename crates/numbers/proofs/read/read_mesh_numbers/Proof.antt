@@ -24,7 +24,7 @@ returns-4 c =
 
 returns-5 : tie.Need-returns-5
 returns-5 c =
-    same _ _ _ _ _ _ _ _ _ (with-header (now (c .before .before .before .before .before .before .before .before .before .before .before .before .before .before .before .before .before .before .before .args .frame)) (c .before .before .before .before .before .before .before .before .before .before .before .before .before .before .before .before .before .if1 .left) (c .before .before .before .before .before .before .before .before .before .before .before .before .before .before .before .before .if2 .left) (c .before .before .before .before .before .before .before .before .before .before .before .before .before .before .before .if3 .left) _ _ (sym (c .before .before .before .before .before .before .before .before .before .before .before .mhdr .given .1) ∙ c .before .before .before .before .before .before .before .before .before .before .before .before .before .from-byte .ensures) (c .before .before .before .before .before .be32-of .ensures)) (c .read-body .ensures)
+    same _ _ _ _ _ _ _ _ _ (with-header (now (c .before .before .before .before .before .before .before .before .before .before .before .before .before .before .before .before .before .before .before .args .frame)) (c .before .before .before .before .before .before .before .before .before .before .before .before .before .before .before .before .before .if1 .left) (c .before .before .before .before .before .before .before .before .before .before .before .before .before .before .before .before .if2 .left) (c .before .before .before .before .before .before .before .before .before .before .before .before .before .before .before .if3 .left) _ _ (sym (c .before .before .before .before .before .before .before .before .before .before .before .mhdr .given .1) ∙ c .before .before .before .before .before .before .before .before .before .before .before .before .before .from-byte .ensures) (c .before .before .before .before .before .be32-of .ensures)) (c .read-part .ensures)
 
 pub read-mesh-numbers-spec : {M : Type 1} → statement M
 read-mesh-numbers-spec = tie.close (tie.spec returns returns-2 returns-3 (λ c. search needs) (λ c κs. search needs) (λ c. search needs) (λ c. search needs) (λ c. search needs) (λ c. search needs) (λ c. search needs) (λ c. search needs) (λ c. search needs) (λ c. search needs) (λ c. search needs) (λ c. search needs) (λ c κs. search needs) (λ c. search needs) (λ c. search needs) (λ c. search needs) (λ c κs. search needs) returns-4 returns-5)

@@ -17,7 +17,7 @@ returns-2 c =
 
 returns-3 : tie.Need-returns-3
 returns-3 c =
-    mesh-any _ (meshOf (now (c .before .before .before .before .before .before .before .before .before .args .frame))) _ _ _ _ _ _ _ (mesh (now (c .before .before .before .before .before .before .before .before .before .args .frame)) (c .before .before .before .before .before .before .before .if1 .left) (c .before .before .before .before .before .before .if2 .left) (c .before .before .before .before .if3 .taken)) (c .read-mesh-numbers .ensures)
+    mesh-any _ (meshOf (now (c .before .before .before .before .before .before .before .before .before .args .frame))) _ _ _ _ _ _ _ (mesh (now (c .before .before .before .before .before .before .before .before .before .args .frame)) (c .before .before .before .before .before .before .before .if1 .left) (c .before .before .before .before .before .before .if2 .left) (c .before .before .before .before .if3 .taken)) (c .read-mesh .ensures)
 
 returns-4 : tie.Need-returns-4
 unfolding numbersIn
