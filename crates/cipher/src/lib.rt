@@ -6,9 +6,9 @@ ghost use Prim.Native.Nat.{_+_, _≤_};
 ghost use lib.ListN.{length, getD, set};
 ghost use Rattle.cipher.specs.inner.Words.{byteOf, turned, sub, column, lastColumn, loaded, keyed, stepped, lastStepped, bytesOf, nextCols, teTable, keyWords, prepared, enciphered};
 ghost use Rattle.wire.specs.Lay.{put};
-use aes128::Aes128Key;
 use fips197::sbox_table;
 use fips197::times2;
+use keys::Aes128Key;
 use wire::be32_of;
 
 // Of each byte: its S-box value s, as the column 2s, s, s, 3s.

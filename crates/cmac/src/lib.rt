@@ -8,7 +8,6 @@ ghost use Rattle.cipher.specs.inner.Words.{enciphered};
 ghost use Rattle.cmac_chain.specs.Cmac.{k1, k2, tag};
 ghost use Rattle.cmac_chain.specs.inner.State.{absorb1, finished};
 ghost use Rattle.cmac_chain.specs.inner.Progress.{Progress};
-use aes128::Aes128Key;
 use base::least;
 use cipher::Cipher;
 use cipher::encipher;
@@ -16,6 +15,7 @@ use cipher::prepare;
 use cmac_chain::Mac;
 use cmac_chain::add;
 use cmac_chain::double;
+use keys::Aes128Key;
 
 // Section 2.3's K1, for a last block that is whole.
 pub fn subkey1(e: &Cipher) -> [u8; 16]

@@ -2,14 +2,14 @@
 ghost use mathlib.Core.Path.{_≡_};
 ghost use mathlib.Core.List.{_∷_};
 ghost use lib.ListN.{replicate};
-ghost use Rattle.aes128.specs.Key.{keyOf};
+ghost use Rattle.keys.specs.Key.{keyOf};
 ghost use Rattle.fips197.specs.Aes.{aes};
 ghost use Rattle.cipher.specs.inner.Words.{enciphered};
 ghost use Rattle.derivation.specs.Derived.{signingKey, encryptionKey};
-use aes128::Aes128Key;
 use cipher::Cipher;
 use cipher::encipher;
 use cipher::prepare;
+use keys::Aes128Key;
 
 // One block under a key. Whoever enciphers more under one key prepares it once.
 pub fn encrypt_block(key: Aes128Key, block: [u8; 16]) -> [u8; 16]

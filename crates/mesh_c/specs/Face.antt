@@ -10,7 +10,7 @@ use Rattle.base.specs.Pick.{pick}
 use Rattle.base.specs.Numbers.{typeLarge}
 use Rattle.base.specs.Answers.{Answer, value, number, leftBy, Frame, refused}
 use Rattle.fields.specs.Limits.{timestampMost, relayIdMost}
-use Rattle.aes128.specs.declared.Aes128Key.{Aes128Key}
+use Rattle.keys.specs.declared.Aes128Key.{Aes128Key}
 use Rattle.fields.specs.Header.{codeOf, typeRead, headerByte}
 use Rattle.fields.specs.declared.header.MHDR.{MHDR}
 use Rattle.fields.specs.declared.header.PayloadType.{PayloadType}

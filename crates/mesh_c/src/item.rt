@@ -8,7 +8,6 @@ ghost use Rattle.items.specs.Items.{countsOf, countsSay, bareItemAt, itemSays};
 ghost use Rattle.seal.specs.Stream.{sealedOf};
 ghost use Rattle.mesh_c.specs.Face.{asItIs, countList, itemList, foundList, entriesIn, entryRelay, entryRssi, entrySnr};
 use crate::field::from_u8;
-use aes128::Aes128Key;
 use base::Written;
 use heartbeats::HeartbeatPayload;
 use heartbeats::HeartbeatRead;
@@ -20,6 +19,7 @@ use items::Item;
 use items::ItemRead;
 use items::Opening;
 use items::OpeningRead;
+use keys::Aes128Key;
 use numbers::from_bool;
 use seal::encrypt_events_commands;
 

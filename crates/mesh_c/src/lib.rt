@@ -5,7 +5,7 @@ ghost use Rattle.mesh_c.specs.Face.{faceVersion};
 mod field;
 mod frame;
 mod item;
-mod keys;
+mod key;
 mod record;
 mod text;
 

@@ -13,7 +13,6 @@ ghost use Rattle.mic.specs.inner.Made.{madeOf};
 mod absorb;
 
 use absorb::absorb_body;
-use aes128::Aes128Key;
 use base::Checked;
 use base::Limit;
 use base::Refusal;
@@ -23,6 +22,7 @@ use cmac::absorb;
 use cmac::finish;
 use cmac_chain::Mac;
 use fields::HeaderByte;
+use keys::Aes128Key;
 use packets::MeshPacket;
 use packets::MeshRead;
 use packets::Payload;

@@ -14,7 +14,7 @@ use Rattle.base.specs.Lists.{firstOf}
 use Rattle.base.specs.Numbers.{micMissing, frameMost, messageMost, bodyMost, payloadMost, pathMost, cacheMost}
 use Rattle.base.specs.Answers.{Answer, value, number, numberIn, Frame, bytes, refused, unlessRefused, checkedOf, answerOf, writtenSays, checkedSays}
 use Rattle.wire.specs.Part.{reachOf}
-use Rattle.aes128.specs.Key.{keyFromSlice, keyFromText, keySays}
+use Rattle.keys.specs.Key.{keyFromSlice, keyFromText, keySays}
 use Rattle.fields.specs.Header.{typeRead, typed, headerOf, headerByte, typeSays, headerSays, byteSays}
 use Rattle.fields.specs.Freq.{halvedOf, stepsOf, stepsWire, freqWire, freqBytes, freqRead, stepsSays, freqSays}
 use Rattle.fields.specs.Signal.{rssiByte, snrByte, signalSays}

@@ -14,9 +14,9 @@ use Rattle.base.specs.Numbers.{hopsNone, hopsMany, notMesh, typeLarge, keyLengt
 use Rattle.base.specs.Answers.{value, number, bytes, checkedSays}
 use Rattle.wire.specs.Hex.{allHex, unhex, hexText}
 use Rattle.fips197.specs.Aes.{aes}
-use Rattle.aes128.specs.Key.{keyOf, keySays, keyFromSlice, keyFromText}
+use Rattle.keys.specs.Key.{keyOf, keySays, keyFromSlice, keyFromText}
 use Rattle.derivation.specs.Derived.{signingKey, encryptionKey}
-use Rattle.aes128.proofs.Laws.{text-back}
+use Rattle.keys.proofs.Laws.{text-back}
 use Rattle.fields.specs.Header.{typeRead, codeOf, headerOf, headerByte, typeSays, headerSays, byteSays}
 use Rattle.fields.specs.Freq.{halvedOf, stepsOf, freqWire, hertzOf, freqRead, freqSays, stepsSays}
 use Rattle.fields.specs.Limits.{hertzLeast, hertzWritten, stepsMost}

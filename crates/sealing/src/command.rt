@@ -7,12 +7,12 @@ ghost use Rattle.sealing.specs.Open.{decryptOf, workAfter, decodeOf};
 ghost use Rattle.sealing.specs.Seal.{commandSeal, commandSealed, commandOpened};
 use crate::body;
 use crate::body::Opened;
-use aes128::Aes128Key;
 use base::Written;
 use bodies::Body;
 use events::CommandPayload;
 use events::CommandRead;
 use items::Opening;
+use keys::Aes128Key;
 
 // What opening answers: the payload from now on, and what was in it.
 pub enum CommandOpened {

@@ -1,7 +1,6 @@
 // Runs the published vectors of FIPS 197, SP 800-38A and RFC 4493, and document 01's rules of keys, its examples P1 to P12, the limits of
 // a cache and hop edits of one frame, and prints a line for each. The file stdout beside src/ has the published values; the gate compares.
 ghost use Prim.Native.Nat.{_≤_};
-use aes128::Aes128Key;
 use base::Checked;
 use base::Written;
 use cache::Cache;
@@ -30,6 +29,7 @@ use items::Event;
 use items::ItemRead;
 use items::Opening;
 use items::OpeningRead;
+use keys::Aes128Key;
 use libc::STDOUT_FILENO;
 use mic::Validated;
 use mic::validate_mic;
@@ -71,7 +71,7 @@ fn block(label: &[u8], key: &[u8], plain: &[u8]) {
     line(label, encrypt_block(key_of(key), block_of(plain)));
 }
 
-fn key_read(label: &[u8], r: aes128::KeyRead) {
+fn key_read(label: &[u8], r: keys::KeyRead) {
     let answer = r.answer;
     let key = r.key;
     match answer {

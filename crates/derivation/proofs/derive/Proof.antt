@@ -1,5 +1,5 @@
 -- `derivation::derive` meets its contract. Assumes nothing.
-use Rattle.aes128.specs.Key.{keyOf}
+use Rattle.keys.specs.Key.{keyOf}
 use borrow.Author.Needs.{needs}
 use mathlib.Core.Path.{ap, _∙_}
 use Rattle.derivation.proofs.derive.Statement.{statement}

@@ -6,7 +6,7 @@ use mathlib.Core.List.{List, _∷_}
 use Prim.Native.Nat.{ℕ}
 use Rattle.base.specs.Lists.{Bytes}
 use Rattle.base.proofs.Bytes.{cons-lt, zeros-lt}
-use Rattle.aes128.specs.Key.{keyOf}
+use Rattle.keys.specs.Key.{keyOf}
 use Rattle.cipher.specs.inner.Words.{enciphered}
 use Rattle.cipher.proofs.Bridge.{columns-are-bytes}
 use borrow.Author.Needs.{needs}

@@ -1,7 +1,7 @@
 -- `mesh_c::frame::mesh_decrypt` meets its contract. Assumes nothing.
 use mathlib.Core.Path.{ap, _∙_}
 use denote.Ref.{now}
-use Rattle.aes128.specs.declared.Aes128Key.{Aes128Key}
+use Rattle.keys.specs.declared.Aes128Key.{Aes128Key}
 use Rattle.sealing.specs.Mesh.{meshOpenedSays}
 use Rattle.sealing.specs.declared.mesh.MeshOpened.{MeshOpened}
 use Rattle.mesh_c.specs.Face.{numbersDecrypted, numbersWork, openedNumber, openedLeft, countsLeft}

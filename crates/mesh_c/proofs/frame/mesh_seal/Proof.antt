@@ -4,7 +4,7 @@ use denote.Ref.{now}
 use Rattle.base.specs.Answers.{numberIn, outOf}
 use Rattle.packets.specs.Read.{meshSays}
 use Rattle.packets.specs.declared.mesh.MeshRead.{MeshRead}
-use Rattle.aes128.specs.declared.Aes128Key.{Aes128Key}
+use Rattle.keys.specs.declared.Aes128Key.{Aes128Key}
 use Rattle.bodies.specs.Body.{lent}
 use Rattle.mesh_c.specs.Face.{numbersSealed, numbersSeal, placedLeft}
 use borrow.Author.Needs.{needs}

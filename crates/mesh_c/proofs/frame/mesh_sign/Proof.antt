@@ -6,7 +6,7 @@ use Rattle.base.specs.Answers.{numberIn}
 use Rattle.packets.specs.Read.{meshSays}
 use Rattle.packets.specs.declared.mesh.MeshRead.{MeshRead}
 use Rattle.fips197.specs.Aes.{aes}
-use Rattle.aes128.specs.declared.Aes128Key.{Aes128Key}
+use Rattle.keys.specs.declared.Aes128Key.{Aes128Key}
 use Rattle.bodies.specs.Body.{lent}
 use Rattle.mesh_c.specs.Face.{numbersSigned, signedLeft}
 use borrow.Author.Needs.{needs}

@@ -4,7 +4,7 @@ use denote.Ref.{now}
 use mir.Facts.{toZ-ofZ}
 use Rattle.base.specs.Answers.{numberIn, leftBy}
 use Rattle.fips197.specs.Aes.{aes}
-use Rattle.aes128.specs.declared.Aes128Key.{Aes128Key}
+use Rattle.keys.specs.declared.Aes128Key.{Aes128Key}
 use Rattle.bodies.specs.Body.{lent}
 use Rattle.mic.specs.Mic.{validSays}
 use Rattle.mic.specs.declared.Validated.{Validated}

@@ -6,7 +6,7 @@ use denote.Ref.{now}
 use Rattle.base.specs.Answers.{answerOf, outOf, numberIn, writtenSays}
 use Rattle.base.specs.declared.Written.{Written}
 use Rattle.base.proofs.Answers.{out-length}
-use Rattle.aes128.specs.declared.Aes128Key.{Aes128Key}
+use Rattle.keys.specs.declared.Aes128Key.{Aes128Key}
 use Rattle.seal.specs.Stream.{sealedOf}
 use borrow.Author.Needs.{needs}
 use Rattle.mesh_c.proofs.item.mesh_stream.Statement.{statement}
