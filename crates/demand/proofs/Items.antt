@@ -11,7 +11,7 @@ use Rattle.base.specs.Answers.{Frame, bytes, refused, outOf, unlessRefused}
 use Rattle.wire.specs.Run.{runRefusal, runBytes}
 use Rattle.wire.specs.declared.run.Run.{Run}
 use Rattle.items.specs.Items.{pieces, openingOf, nothing}
-use Rattle.seal.specs.Stream.{sealedOf}
+use Rattle.key_stream.specs.Stream.{sealedOf}
 use Rattle.bodies.specs.Body.{heldIn, payloadOf}
 use Rattle.bodies.specs.declared.body.Held.{Held}
 use Rattle.bodies.specs.declared.body.Held.the-variants.{Frame as InFrame, Work as InWork}

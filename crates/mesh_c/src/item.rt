@@ -5,7 +5,7 @@ ghost use Rattle.base.specs.Answers.{answerOf, outOf, numberIn, leftBy, written
 ghost use Rattle.heartbeats.specs.Heartbeat.{beatSays, beatOf, pathSays, entryRead, beatWire};
 ghost use Rattle.heartbeats.specs.Paths.{paths, pathsIn};
 ghost use Rattle.items.specs.Items.{countsOf, countsSay, bareItemAt, itemSays};
-ghost use Rattle.seal.specs.Stream.{sealedOf};
+ghost use Rattle.key_stream.specs.Stream.{sealedOf};
 ghost use Rattle.mesh_c.specs.Face.{asItIs, countList, itemList, foundList, entriesIn, entryRelay, entryRssi, entrySnr};
 use crate::field::from_u8;
 use base::Written;
@@ -19,9 +19,9 @@ use items::Item;
 use items::ItemRead;
 use items::Opening;
 use items::OpeningRead;
+use key_stream::encrypt_events_commands;
 use keys::Aes128Key;
 use numbers::from_bool;
-use seal::encrypt_events_commands;
 
 // A payload sealed, or a sealed one opened: 0, 5 or 21.
 #[no_mangle]

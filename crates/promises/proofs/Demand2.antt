@@ -19,8 +19,8 @@ use Rattle.cipher.proofs.Laws.{prepared-agrees}
 use Rattle.cmac_chain.specs.Cmac.{tag}
 use Rattle.cmac_chain.specs.inner.State.{begun, absorb1, finished}
 use Rattle.cmac_chain.proofs.Laws.{pieces, tag-same}
-use Rattle.seal.specs.Stream.{streamBlock, sealedOf}
-use Rattle.seal.proofs.Laws.{block-1, block-256, repeats, seal-twice}
+use Rattle.key_stream.specs.Stream.{streamBlock, sealedOf}
+use Rattle.key_stream.proofs.Laws.{block-1, block-256, repeats, seal-twice}
 use Rattle.fields.specs.declared.header.PayloadType.the-variants.{Uplink, Downlink, Event, Command}
 use Rattle.items.specs.Items.{openingOf}
 use Rattle.items.proofs.Laws.{bytes-sum}

@@ -40,7 +40,7 @@ use Rattle.items.specs.Items.{badBeat, openingOf, itemAt, bareItemAt, countsOf,
 use Rattle.heartbeats.specs.Heartbeat.{entryAt, beatRefusal, entryRefusal, beatOf, beatWire, entryRead, beatSays, pathSays}
 use Rattle.heartbeats.specs.declared.heartbeat.HeartbeatRead.the-variants.{Heartbeat, Refused as NoBeat}
 use Rattle.heartbeats.specs.declared.heartbeat.PathRead.the-variants.{Entry, Refused as NoEntry}
-use Rattle.seal.specs.Stream.{sealedOf}
+use Rattle.key_stream.specs.Stream.{sealedOf}
 use Rattle.wire.specs.Number.{beBytes}
 use Rattle.wire.specs.Hex.{allHex}
 use Rattle.wire.specs.Run.{runRefusal, runBytes}

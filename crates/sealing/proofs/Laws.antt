@@ -15,8 +15,8 @@ use Rattle.wire.specs.Run.{runRefusal, runBytes}
 use Rattle.wire.specs.declared.run.Run.{Run}
 use Rattle.base.proofs.Answers.{not-refused, unless-bytes}
 use Rattle.wire.proofs.Laws.Part.{inside}
-use Rattle.seal.specs.Stream.{streamed, sealedOf}
-use Rattle.seal.proofs.Laws.{seal-twice}
+use Rattle.key_stream.specs.Stream.{streamed, sealedOf}
+use Rattle.key_stream.proofs.Laws.{seal-twice}
 use Rattle.items.specs.Items.{openingOf}
 use Rattle.items.proofs.Laws.{no-pieces}
 use Rattle.composed.specs.Composed.{Lists}

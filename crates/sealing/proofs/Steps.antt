@@ -20,8 +20,8 @@ use Rattle.wire.specs.Part.{partOf}
 use Rattle.wire.specs.Run.{runRefusal, runBytes}
 use Rattle.wire.specs.declared.run.Run.{Run}
 use Rattle.cipher.specs.inner.Words.{prepared, enciphered}
-use Rattle.seal.specs.Stream.{numbered, streamed, sealedOf}
-use Rattle.seal.proofs.Turns.{too-long, too-short, sealed-in}
+use Rattle.key_stream.specs.Stream.{numbered, streamed, sealedOf}
+use Rattle.key_stream.proofs.Turns.{too-long, too-short, sealed-in}
 use Rattle.items.specs.Items.{openingOf}
 use Rattle.composed.specs.inner.Passes.{capped}
 use Rattle.payloads.proofs.Steps.{Outcome, refuses, same-frame}

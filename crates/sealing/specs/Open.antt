@@ -12,7 +12,7 @@ use Rattle.wire.specs.Run.{runRefusal, runBytes}
 use Rattle.wire.specs.declared.run.Run.{Run}
 use Rattle.items.specs.Items.{openingOf, nothing}
 use Rattle.items.specs.declared.count.Opening.{Opening}
-use Rattle.seal.specs.Stream.{sealedOf}
+use Rattle.key_stream.specs.Stream.{sealedOf}
 use Rattle.bodies.specs.Body.{heldIn}
 use Rattle.bodies.specs.declared.body.Held.{Held}
 use Rattle.bodies.specs.declared.body.Held.the-variants.{Frame as InFrame, Work as InWork}

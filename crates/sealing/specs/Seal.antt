@@ -5,7 +5,7 @@ use mathlib.Core.List.{List}
 use Rattle.base.specs.Answers.{Frame, Answer, value, number, unlessRefused}
 use Rattle.base.specs.declared.Written.{Written}
 use Rattle.base.specs.declared.Written.the-variants.{Bytes, Refused}
-use Rattle.seal.specs.Stream.{sealedOf}
+use Rattle.key_stream.specs.Stream.{sealedOf}
 use Rattle.bodies.specs.Body.{Lent, bodyOf, bodyRefusal, bodyBytes}
 use Rattle.bodies.specs.declared.body.Body.{Body}
 use Rattle.events.specs.declared.stamped.EventPayload.{EventPayload}

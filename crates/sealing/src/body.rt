@@ -14,9 +14,9 @@ use bodies::held_in;
 use cipher::prepare;
 use items::Opening;
 use items::count_items;
+use key_stream::add_stream;
+use key_stream::encrypt_events_commands;
 use keys::Aes128Key;
-use seal::add_stream;
-use seal::encrypt_events_commands;
 use wire::Run;
 
 pub enum Opened {

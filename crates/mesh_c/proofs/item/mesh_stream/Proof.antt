@@ -7,7 +7,7 @@ use Rattle.base.specs.Answers.{answerOf, outOf, numberIn, writtenSays}
 use Rattle.base.specs.declared.Written.{Written}
 use Rattle.base.proofs.Answers.{out-length}
 use Rattle.keys.specs.declared.Aes128Key.{Aes128Key}
-use Rattle.seal.specs.Stream.{sealedOf}
+use Rattle.key_stream.specs.Stream.{sealedOf}
 use borrow.Author.Needs.{needs}
 use Rattle.mesh_c.proofs.item.mesh_stream.Statement.{statement}
 use Rattle.mesh_c.proofs.item.mesh_stream.Tie as tie

@@ -1,18 +1,18 @@
--- `seal::encrypt_events_commands` meets its contract. Assumes nothing.
+-- `key_stream::encrypt_events_commands` meets its contract. Assumes nothing.
 use Prim.Native.Nat.{ℕ, _≤_}
 use mir.Val.{Fits}
 use mir.Syntax.{w8}
 use lib.ListN.{length, getD}
 use lib.Seq.{length-take-le}
 use Rattle.wire.proofs.Laws.Lay.{put-length}
-use Rattle.seal.proofs.Turns.{too-long, too-short, sealed-in}
+use Rattle.key_stream.proofs.Turns.{too-long, too-short, sealed-in}
 use borrow.Author.Needs.{needs}
 use native.Mathlib.Omega.{arith}
 use mathlib.Core.Bool.{not}
 use mathlib.Core.Path.{_≡_, sym, ap, _∙_}
 use denote.Ref.{now}
-use Rattle.seal.proofs.encrypt_events_commands.Statement.{statement}
-use Rattle.seal.proofs.encrypt_events_commands.Tie as tie
+use Rattle.key_stream.proofs.encrypt_events_commands.Statement.{statement}
+use Rattle.key_stream.proofs.encrypt_events_commands.Tie as tie
 
 returns : tie.Need-returns
 returns c = let a = c .before .before .before .args in

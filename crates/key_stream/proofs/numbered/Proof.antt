@@ -1,9 +1,9 @@
--- `seal::numbered` meets its contract. Assumes nothing.
+-- `key_stream::numbered` meets its contract. Assumes nothing.
 use Rattle.wire.specs.Number.{beBytes}
-use Rattle.seal.specs.Stream.{numbered}
+use Rattle.key_stream.specs.Stream.{numbered}
 use borrow.Author.Needs.{needs}
-use Rattle.seal.proofs.numbered.Statement.{statement}
-use Rattle.seal.proofs.numbered.Tie as tie
+use Rattle.key_stream.proofs.numbered.Statement.{statement}
+use Rattle.key_stream.proofs.numbered.Tie as tie
 
 returns : tie.Need-returns
 unfolding numbered beBytes

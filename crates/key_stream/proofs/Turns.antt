@@ -20,8 +20,8 @@ use Rattle.wire.specs.Lay.{put}
 use Rattle.wire.proofs.Laws.Lay.{Laying, laying-none, laying-done, put-whole, put-front}
 use Rattle.fips197.specs.Aes.{aes}
 use Rattle.cipher.specs.inner.Words.{prepared, enciphered}
-use Rattle.seal.specs.Stream.{numbered, blockNumber, streamBlock, streamByte, streamed, sealedOf}
-use Rattle.seal.proofs.Laws.{streamed-length, prepared-stream, seal-long, seal-fits}
+use Rattle.key_stream.specs.Stream.{numbered, blockNumber, streamBlock, streamByte, streamed, sealedOf}
+use Rattle.key_stream.proofs.Laws.{streamed-length, prepared-stream, seal-long, seal-fits}
 
 -- as many bytes of k as x has are enough
 pub added-all : (x k : List ℕ) (n : ℕ) → length x ≤ n → added x (take n k) ≡ added x k

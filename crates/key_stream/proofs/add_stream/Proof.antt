@@ -1,15 +1,15 @@
--- `seal::add_stream` meets its contract. Assumes nothing.
+-- `key_stream::add_stream` meets its contract. Assumes nothing.
 use Prim.Native.Nat.{_-_, _+_, _<_, min}
 use lib.ListN.{length, length-take}
 use Rattle.cipher.specs.inner.Words.{enciphered}
-use Rattle.seal.specs.Stream.{numbered}
-use Rattle.seal.proofs.Turns.{Adding, adding-none, adding-more, adding-done}
+use Rattle.key_stream.specs.Stream.{numbered}
+use Rattle.key_stream.proofs.Turns.{Adding, adding-none, adding-more, adding-done}
 use borrow.Author.Needs.{needs}
 use native.Mathlib.Omega.{arith}
 use mathlib.Core.Path.{_≡_}
 use denote.Ref.{now}
-use Rattle.seal.proofs.add_stream.Statement.{statement}
-use Rattle.seal.proofs.add_stream.Tie as tie
+use Rattle.key_stream.proofs.add_stream.Statement.{statement}
+use Rattle.key_stream.proofs.add_stream.Tie as tie
 
 abbrev Inv-loop : tie.InvT-loop
 Inv-loop e is-event relay-id timestamp buf₀ n₀ at₀ buf n at = Adding (enciphered e) (numbered is-event relay-id timestamp) buf₀ buf n at

@@ -1,16 +1,16 @@
--- `seal::add_block` meets its contract. Assumes nothing.
+-- `key_stream::add_block` meets its contract. Assumes nothing.
 use Prim.Native.Nat.{_-_, _≤_}
 use lib.ListN.{length, take, length-set}
 use Rattle.base.specs.Lists.{added}
 use Rattle.base.proofs.Lists.{added-none}
 use Rattle.base.proofs.Lists.{added-more}
-use Rattle.seal.proofs.Turns.{added-all}
+use Rattle.key_stream.proofs.Turns.{added-all}
 use borrow.Author.Needs.{needs}
 use native.Mathlib.Omega.{arith}
 use mathlib.Core.Path.{_≡_, refl, sym, _∙_}
 use denote.Ref.{now}
-use Rattle.seal.proofs.add_block.Statement.{statement}
-use Rattle.seal.proofs.add_block.Tie as tie
+use Rattle.key_stream.proofs.add_block.Statement.{statement}
+use Rattle.key_stream.proofs.add_block.Tie as tie
 
 abbrev Inv-loop : tie.InvT-loop
 Inv-loop s₀ k j₀ s j = (j ≤ length s₀) × (length s ≡ length s₀) × (s ≡ added s₀ (take j k))

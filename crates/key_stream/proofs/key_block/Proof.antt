@@ -1,9 +1,9 @@
--- `seal::key_block` meets its contract. Assumes nothing.
+-- `key_stream::key_block` meets its contract. Assumes nothing.
 use Rattle.cipher.specs.inner.Words.{enciphered}
 use borrow.Author.Needs.{needs}
 use mathlib.Core.Path.{ap, _∙_}
-use Rattle.seal.proofs.key_block.Statement.{statement}
-use Rattle.seal.proofs.key_block.Tie as tie
+use Rattle.key_stream.proofs.key_block.Statement.{statement}
+use Rattle.key_stream.proofs.key_block.Tie as tie
 
 returns : tie.Need-returns
 returns c = c .encipher .ensures ∙ ap (enciphered _) (c .before .numbered .ensures)

@@ -22,7 +22,7 @@ use Rattle.fips197.specs.Aes.{aes}
 use Rattle.fips197.proofs.Bytes.{aes-block}
 use Rattle.cipher.specs.inner.Words.{prepared, enciphered}
 use Rattle.cipher.proofs.Laws.{prepared-agrees}
-use Rattle.seal.specs.Stream.{numberBytes, numbered, blockNumber, streamBlock, streamByte, streamed, sealedOf}
+use Rattle.key_stream.specs.Stream.{numberBytes, numbered, blockNumber, streamBlock, streamByte, streamed, sealedOf}
 
 -- the block number is one byte
 pub number-lt : (i : ℕ) → blockNumber i < 256

@@ -3,12 +3,12 @@ use mathlib.Core.Path.{refl, sym, ap, _∙_}
 use mathlib.Core.List.{List}
 use Prim.Native.Nat.{ℕ}
 use Rattle.base.proofs.Outcome.{Fixed}
-use Rattle.seal.proofs.key_block.Kinds as key-block-kinds
-use Rattle.seal.proofs.key_block.Reads as key-block-reads
-use Rattle.seal.proofs.add_stream.Kinds as add-stream-kinds
-use Rattle.seal.proofs.add_stream.Reads as add-stream-reads
-use Rattle.seal.proofs.encrypt_events_commands.Kinds as encrypt-events-commands-kinds
-use Rattle.seal.proofs.encrypt_events_commands.Reads as encrypt-events-commands-reads
+use Rattle.key_stream.proofs.key_block.Kinds as key-block-kinds
+use Rattle.key_stream.proofs.key_block.Reads as key-block-reads
+use Rattle.key_stream.proofs.add_stream.Kinds as add-stream-kinds
+use Rattle.key_stream.proofs.add_stream.Reads as add-stream-reads
+use Rattle.key_stream.proofs.encrypt_events_commands.Kinds as encrypt-events-commands-kinds
+use Rattle.key_stream.proofs.encrypt_events_commands.Reads as encrypt-events-commands-reads
 
 key-block : Fixed 1 key-block-kinds.ps key-block-kinds.r key-block-reads.Post
 key-block κs a x y v w p q = (p ∙ sym q, refl)
