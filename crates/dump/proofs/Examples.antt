@@ -4,7 +4,7 @@ use mathlib.Core.Path.{_≡_, refl}
 use Rattle.wire.specs.Number.{beMore, beOf, beBytes}
 use Rattle.wire.specs.Hex.{nibbleOf, digitOf, pairOf, allHex, unhex, hexText}
 use Rattle.fields.specs.Header.{typeRead, headerOf}
-use Rattle.payloads.specs.Read.{uplinkAt, downlinkAt}
+use Rattle.links.specs.Read.{uplinkAt, downlinkAt}
 use Rattle.events.specs.Read.{stampedAt, eventAt, commandAt}
 use Rattle.packets.specs.Read.{payloadAt, meshOf, packetOf}
 use Rattle.dump.specs.Ascii.{ascii}

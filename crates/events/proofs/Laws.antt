@@ -14,11 +14,11 @@ use Rattle.base.specs.Answers.{Frame, bytes, refused}
 use Rattle.wire.specs.Number.{beBytes}
 use Rattle.wire.proofs.Laws.Number.{be-length, bytes-of}
 use Rattle.fields.proofs.Laws.Bytes.{none, _▸_, small}
-use Rattle.payloads.specs.Read.{fourAt}
-use Rattle.payloads.proofs.Laws.{with-four, four-is, spelt, third}
+use Rattle.links.specs.Read.{fourAt}
+use Rattle.links.proofs.Laws.{with-four, four-is, spelt, third}
 use Rattle.bodies.specs.Body.{Lent, bodyOf, bodyRefusal, bodyBytes, bodyWire}
 use Rattle.events.specs.Read.{stampedAt, asEvent, eventAt, asCommand, commandAt}
-use Rattle.payloads.specs.Write.{headedBy}
+use Rattle.links.specs.Write.{headedBy}
 use Rattle.events.specs.Write.{stamp, stampedWire}
 use Rattle.bodies.specs.declared.body.Body.{Body}
 use Rattle.events.specs.declared.stamped.EventPayload.{EventPayload}

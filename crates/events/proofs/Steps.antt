@@ -17,8 +17,8 @@ use Rattle.wire.proofs.Laws.Lay.{put-front, two-puts}
 use Rattle.wire.proofs.Laws.Number.{be-length}
 use Rattle.composed.specs.inner.Passes.{capped}
 use Rattle.composed.proofs.Laws.{capped-is, capped-over}
-use Rattle.payloads.specs.Write.{prefixed, limited, limitedOf, withMic, headedBy}
-use Rattle.payloads.proofs.Steps.{Outcome, refuses, same-frame, body-refused, frame-refused, no-mic, frame-long, frame-whole, four-length, four-puts}
+use Rattle.links.specs.Write.{prefixed, limited, limitedOf, withMic, headedBy}
+use Rattle.links.proofs.Steps.{Outcome, refuses, same-frame, body-refused, frame-refused, no-mic, frame-long, frame-whole, four-length, four-puts}
 use Rattle.bodies.specs.Body.{Lent, bodyRefusal, bodyBytes, bodyWire}
 use Rattle.events.specs.Write.{stamp, stampedWire}
 use Rattle.events.specs.declared.stamped.Stamped.{Stamped}

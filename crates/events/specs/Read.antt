@@ -6,7 +6,7 @@ use lib.ListN.{length}
 use Rattle.base.specs.Pick.{pick}
 use Rattle.base.specs.Numbers.{frameLong, bodyShort, bodyMost}
 use Rattle.base.specs.Answers.{Answer, value, number}
-use Rattle.payloads.specs.Read.{fourAt}
+use Rattle.links.specs.Read.{fourAt}
 use Rattle.bodies.specs.Body.{bodyOf}
 use Rattle.events.specs.declared.stamped.EventPayload.{EventPayload}
 use Rattle.events.specs.declared.stamped.EventRead.{EventRead}

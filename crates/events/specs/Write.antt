@@ -9,7 +9,7 @@ use Rattle.bodies.specs.Body.{Lent, bodyWire}
 use Rattle.events.specs.declared.stamped.EventPayload.{EventPayload}
 use Rattle.events.specs.declared.stamped.CommandPayload.{CommandPayload}
 use Rattle.events.specs.declared.stamped.Stamped.{Stamped}
-use Rattle.payloads.specs.Write.{headedBy}
+use Rattle.links.specs.Write.{headedBy}
 
 -- timestamp and relay id
 unfoldable pub stamp : ℕ → ℕ → List ℕ

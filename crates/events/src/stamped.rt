@@ -1,7 +1,7 @@
 // Event and command bodies: timestamp, relay id, and what follows them.
 ghost use mathlib.Core.Path.{_≡_};
 ghost use Rattle.base.specs.Answers.{answerOf, outOf};
-ghost use Rattle.payloads.specs.Write.{limitedOf, prefixed, withMic};
+ghost use Rattle.links.specs.Write.{limitedOf, prefixed, withMic};
 ghost use Rattle.bodies.specs.Body.{lent};
 ghost use Rattle.events.specs.Read.{stampedAt, eventAt, commandAt};
 ghost use Rattle.events.specs.Write.{stamp, stampedOfEvent, stampedOfCommand, eventWire, commandWire, stampedWire};

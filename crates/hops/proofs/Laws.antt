@@ -19,7 +19,7 @@ use Rattle.fields.specs.declared.header.PayloadType.{PayloadType}
 use Rattle.fields.specs.declared.header.PayloadType.the-variants.{Uplink, Downlink, Event, Command}
 use Rattle.fields.specs.declared.header.HeaderByte.{HeaderByte}
 use Rattle.fields.specs.declared.header.HeaderByte.the-variants.{Byte, Refused as NoByte}
-use Rattle.payloads.specs.Write.{withMic}
+use Rattle.links.specs.Write.{withMic}
 use Rattle.composed.specs.Composed.{Lists}
 use Rattle.packets.specs.Read.{bodyIn, meshOf}
 use Rattle.packets.specs.Write.{payloadWire, behind, messageOf, meshFrame}

@@ -26,7 +26,7 @@ use Rattle.items.specs.Items.{kindCode, Found, keptItem, skippedItem, cutTail, 
 use Rattle.items.specs.declared.item.Item.{Item}
 use Rattle.items.specs.declared.count.Opening.{Opening}
 use Rattle.bodies.specs.Body.{Lent}
-use Rattle.payloads.specs.Write.{limitedOf}
+use Rattle.links.specs.Write.{limitedOf}
 use Rattle.packets.specs.Write.{payloadWire}
 use Rattle.sealing.specs.Mesh.{sealOf, meshSealed, meshDecrypted, meshWork, meshDecoded}
 use Rattle.packets.specs.declared.mesh.MeshPacket.{MeshPacket}

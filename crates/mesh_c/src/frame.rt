@@ -5,7 +5,7 @@ ghost use Rattle.base.specs.Answers.{answerOf, outOf, numberIn, leftBy, written
 ghost use Rattle.fips197.specs.Aes.{aes};
 ghost use Rattle.fields.specs.Header.{typeRead};
 ghost use Rattle.bodies.specs.Body.{lent};
-ghost use Rattle.payloads.specs.Write.{limitedOf};
+ghost use Rattle.links.specs.Write.{limitedOf};
 ghost use Rattle.packets.specs.Read.{packetSays, packetOf, meshSays, meshOf};
 ghost use Rattle.packets.specs.Write.{payloadWire};
 ghost use Rattle.sealing.specs.Mesh.{meshOpenedSays};

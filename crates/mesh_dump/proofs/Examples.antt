@@ -5,7 +5,7 @@ use Rattle.base.specs.Lists.{joined}
 use Rattle.wire.specs.Number.{beMore, beOf, beBytes}
 use Rattle.wire.specs.Hex.{nibbleOf, digitOf, pairOf, allHex, unhex, hexText}
 use Rattle.fields.specs.Header.{typeRead, headerOf}
-use Rattle.payloads.specs.Read.{uplinkAt}
+use Rattle.links.specs.Read.{uplinkAt}
 use Rattle.events.specs.Read.{stampedAt, eventAt}
 use Rattle.packets.specs.Read.{payloadAt, meshOf, packetOf}
 use Rattle.dump.specs.Ascii.{ascii}

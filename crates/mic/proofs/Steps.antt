@@ -21,7 +21,7 @@ use Rattle.cmac_chain.specs.Cmac.{tag}
 use Rattle.cmac_chain.specs.inner.State.{begun, absorb1, finished}
 use Rattle.cmac_chain.specs.declared.Mac.{Mac}
 use Rattle.cmac_chain.proofs.Laws.{finish-tag, tag-same}
-use Rattle.payloads.specs.Write.{prefixed, headedBy}
+use Rattle.links.specs.Write.{prefixed, headedBy}
 use Rattle.bodies.specs.Body.{Lent, bodyRefusal, bodyBytes, bodyWire}
 use Rattle.bodies.specs.declared.body.Body.{Body}
 use Rattle.base.proofs.Answers.{is-refused, not-refused}

@@ -6,7 +6,7 @@ ghost use Rattle.base.specs.Answers.{bytes};
 ghost use Rattle.wire.specs.Number.{beOf};
 ghost use Rattle.fips197.specs.Aes.{aes};
 ghost use Rattle.bodies.specs.Body.{lent, bodyWire};
-ghost use Rattle.payloads.specs.Write.{prefixed, uplinkWire, downlinkWire, headedBy};
+ghost use Rattle.links.specs.Write.{prefixed, uplinkWire, downlinkWire, headedBy};
 ghost use Rattle.mic.specs.Mic.{fitting, signedOf, setMic, validateMic};
 ghost use Rattle.mic.specs.inner.Made.{madeOf};
 
@@ -23,11 +23,11 @@ use cmac::finish;
 use cmac_chain::Mac;
 use fields::HeaderByte;
 use keys::Aes128Key;
+use links::DownlinkPayload;
+use links::UplinkPayload;
 use packets::MeshPacket;
 use packets::MeshRead;
 use packets::Payload;
-use payloads::DownlinkPayload;
-use payloads::UplinkPayload;
 use wire::be32_of;
 
 pub enum Validated {

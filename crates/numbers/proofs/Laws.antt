@@ -20,9 +20,9 @@ use Rattle.fields.specs.declared.header.HeaderByte.the-variants.{Byte, Refused 
 use Rattle.fields.specs.declared.header.PayloadType.the-variants.{Uplink}
 use Rattle.fields.specs.declared.header.TypeRead.the-variants.{Kind, Refused as NoKind}
 use Rattle.bodies.specs.Body.{Lent}
-use Rattle.payloads.specs.Write.{prefixed, withMic, uplinkWire}
-use Rattle.payloads.specs.declared.uplink.UplinkPayload.{UplinkPayload}
-use Rattle.payloads.proofs.Steps.{Outcome, refuses, same-frame}
+use Rattle.links.specs.Write.{prefixed, withMic, uplinkWire}
+use Rattle.links.specs.declared.uplink.UplinkPayload.{UplinkPayload}
+use Rattle.links.proofs.Steps.{Outcome, refuses, same-frame}
 use Rattle.packets.specs.Read.{ofMesh}
 use Rattle.packets.specs.Write.{payloadWire, payloadKinds, meshFrame, packetFrame}
 use Rattle.packets.specs.declared.mesh.Payload.{Payload}

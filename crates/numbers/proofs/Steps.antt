@@ -15,9 +15,9 @@ use Rattle.fields.specs.declared.header.HeaderRead.the-variants.{Header, Refuse
 use Rattle.bodies.specs.declared.body.Held.the-variants.{Frame as InFrame, Work as InWork}
 use Rattle.bodies.specs.declared.body.Body.{Body}
 use Rattle.bodies.specs.declared.body.Body.the-variants.{Empty, Sealed, Open, Items}
-use Rattle.payloads.specs.Read.{fourAt, uplinkAt, downlinkAt}
-use Rattle.payloads.specs.declared.uplink.UplinkRead.{UplinkRead}
-use Rattle.payloads.specs.declared.downlink.DownlinkRead.{DownlinkRead}
+use Rattle.links.specs.Read.{fourAt, uplinkAt, downlinkAt}
+use Rattle.links.specs.declared.uplink.UplinkRead.{UplinkRead}
+use Rattle.links.specs.declared.downlink.DownlinkRead.{DownlinkRead}
 use Rattle.events.specs.Read.{eventAt, commandAt}
 use Rattle.events.specs.declared.stamped.EventRead.{EventRead}
 use Rattle.events.specs.declared.stamped.CommandRead.{CommandRead}

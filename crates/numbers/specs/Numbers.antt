@@ -21,9 +21,9 @@ use Rattle.bodies.specs.Body.{Lent}
 use Rattle.bodies.specs.declared.body.Held.the-variants.{Frame as InFrame, Work as InWork}
 use Rattle.bodies.specs.declared.body.Body.{Body}
 use Rattle.bodies.specs.declared.body.Body.the-variants.{Empty, Sealed, Open, Items}
-use Rattle.payloads.specs.Read.{uplinkAt, downlinkAt}
-use Rattle.payloads.specs.declared.uplink.UplinkPayload.{UplinkPayload}
-use Rattle.payloads.specs.declared.downlink.DownlinkPayload.{DownlinkPayload}
+use Rattle.links.specs.Read.{uplinkAt, downlinkAt}
+use Rattle.links.specs.declared.uplink.UplinkPayload.{UplinkPayload}
+use Rattle.links.specs.declared.downlink.DownlinkPayload.{DownlinkPayload}
 use Rattle.events.specs.Read.{eventAt, commandAt}
 use Rattle.packets.specs.Read.{ofUplink, ofDownlink, ofEvent, ofCommand, ofMesh}
 use Rattle.packets.specs.Write.{packetFrame}

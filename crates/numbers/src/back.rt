@@ -18,13 +18,13 @@ use fields::RelayId;
 use fields::Timestamp;
 use fields::TypeRead;
 use fields::UplinkMetadata;
+use links::DownlinkPayload;
+use links::UplinkPayload;
 use packets::MeshPacket;
 use packets::MeshRead;
 use packets::Packet;
 use packets::PacketRead;
 use packets::Payload;
-use payloads::DownlinkPayload;
-use payloads::UplinkPayload;
 use wire::Run;
 
 // ---- a number as a field holds it: one that is wider counts as the largest, and is never cut to its low bits

@@ -19,11 +19,11 @@ use fields::HeaderRead;
 use fields::MHDR;
 use fields::PayloadType;
 use fields::TypeRead;
+use links::DownlinkPayload;
+use links::DownlinkRead;
+use links::UplinkPayload;
+use links::UplinkRead;
 use packets::MeshPacket;
-use payloads::DownlinkPayload;
-use payloads::DownlinkRead;
-use payloads::UplinkPayload;
-use payloads::UplinkRead;
 use wire::be32_of;
 
 // ---- the sixteen numbers of each kind

@@ -2,7 +2,7 @@
 ghost use mathlib.Core.Path.{_≡_};
 ghost use Rattle.base.specs.Answers.{answerOf, outOf};
 ghost use Rattle.bodies.specs.Body.{lent};
-ghost use Rattle.payloads.specs.Write.{uplinkWire, prefixed, withMic};
+ghost use Rattle.links.specs.Write.{uplinkWire, prefixed, withMic};
 ghost use Rattle.numbers.specs.Numbers.{numbersFrame};
 use crate::back::packet_of;
 use crate::back::to_type;
@@ -17,9 +17,9 @@ use fields::HeaderByte;
 use fields::MHDR;
 use fields::PayloadType;
 use fields::TypeRead;
+use links::UplinkPayload;
+use links::write_frame;
 use packets::PacketRead;
-use payloads::UplinkPayload;
-use payloads::write_frame;
 
 // As `UplinkPayload::write_in`. That has a caller in `packets` too, so the compiler keeps it as a call of its own, and lays the payload out in
 // memory for it; this one it takes into its caller.

@@ -12,8 +12,8 @@ use Rattle.fields.specs.declared.header.HeaderByte.the-variants.{Byte, Refused 
 use Rattle.bodies.specs.Body.{Lent}
 use Rattle.wire.specs.Run.{runRefusal, runBytes}
 use Rattle.wire.specs.declared.run.Run.{Run}
-use Rattle.payloads.specs.Write.{prefixed, withMic}
-use Rattle.payloads.proofs.Steps.{Outcome}
+use Rattle.links.specs.Write.{prefixed, withMic}
+use Rattle.links.proofs.Steps.{Outcome}
 use Rattle.packets.specs.Write.{behind, payloadWire, kindsIn, meshFrame, loraFrame}
 use Rattle.packets.specs.declared.mesh.MeshPacket.{MeshPacket}
 use Rattle.packets.proofs.Laws.{message-strange, message-known}

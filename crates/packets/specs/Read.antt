@@ -13,12 +13,12 @@ use Rattle.fields.specs.declared.header.PayloadType.{PayloadType}
 use Rattle.fields.specs.declared.header.PayloadType.the-variants.{Uplink, Downlink, Event, Command}
 use Rattle.fields.specs.declared.header.HeaderRead.{HeaderRead}
 use Rattle.fields.specs.declared.header.HeaderRead.the-variants.{Header, Refused as NoHeader}
-use Rattle.payloads.specs.Read.{fourAt, uplinkAt, downlinkAt}
+use Rattle.links.specs.Read.{fourAt, uplinkAt, downlinkAt}
 use Rattle.events.specs.Read.{eventAt, commandAt}
-use Rattle.payloads.specs.declared.uplink.UplinkRead.{UplinkRead}
-use Rattle.payloads.specs.declared.uplink.UplinkRead.the-variants.{Payload as UplinkIs, Refused as NoUplink}
-use Rattle.payloads.specs.declared.downlink.DownlinkRead.{DownlinkRead}
-use Rattle.payloads.specs.declared.downlink.DownlinkRead.the-variants.{Payload as DownlinkIs, Refused as NoDownlink}
+use Rattle.links.specs.declared.uplink.UplinkRead.{UplinkRead}
+use Rattle.links.specs.declared.uplink.UplinkRead.the-variants.{Payload as UplinkIs, Refused as NoUplink}
+use Rattle.links.specs.declared.downlink.DownlinkRead.{DownlinkRead}
+use Rattle.links.specs.declared.downlink.DownlinkRead.the-variants.{Payload as DownlinkIs, Refused as NoDownlink}
 use Rattle.events.specs.declared.stamped.EventRead.{EventRead}
 use Rattle.events.specs.declared.stamped.EventRead.the-variants.{Payload as EventIs, Refused as NoEvent}
 use Rattle.events.specs.declared.stamped.CommandRead.{CommandRead}

@@ -13,7 +13,7 @@ use Rattle.fields.specs.declared.header.HeaderByte.{HeaderByte}
 use Rattle.fields.specs.declared.header.HeaderByte.the-variants.{Byte, Refused as NoByte}
 use Rattle.wire.specs.Run.{runRefusal, runBytes}
 use Rattle.bodies.specs.Body.{Lent, bodyKinds}
-use Rattle.payloads.specs.Write.{prefixed, withMic, uplinkWire, downlinkWire}
+use Rattle.links.specs.Write.{prefixed, withMic, uplinkWire, downlinkWire}
 use Rattle.events.specs.Write.{eventWire, commandWire}
 use Rattle.wire.specs.declared.run.Run.{Run}
 use Rattle.packets.specs.declared.mesh.Payload.{Payload}

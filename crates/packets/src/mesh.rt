@@ -16,10 +16,10 @@ use fields::HeaderByte;
 use fields::HeaderRead;
 use fields::MHDR;
 use fields::PayloadType;
-use payloads::DownlinkPayload;
-use payloads::DownlinkRead;
-use payloads::UplinkPayload;
-use payloads::UplinkRead;
+use links::DownlinkPayload;
+use links::DownlinkRead;
+use links::UplinkPayload;
+use links::UplinkRead;
 use wire::be32_of;
 
 pub enum Payload {

@@ -26,10 +26,10 @@ use Rattle.items.specs.Items.{openingOf}
 use Rattle.items.proofs.Laws.{bytes-sum}
 use Rattle.composed.specs.Composed.{Lists}
 use Rattle.bodies.specs.Body.{Lent, bodyOf, bodyBytes, framed}
-use Rattle.payloads.specs.Write.{downlinkHead}
-use Rattle.payloads.specs.Read.{heard}
-use Rattle.payloads.specs.declared.uplink.UplinkPayload.{UplinkPayload}
-use Rattle.payloads.specs.declared.downlink.DownlinkPayload.{DownlinkPayload}
+use Rattle.links.specs.Write.{downlinkHead}
+use Rattle.links.specs.Read.{heard}
+use Rattle.links.specs.declared.uplink.UplinkPayload.{UplinkPayload}
+use Rattle.links.specs.declared.downlink.DownlinkPayload.{DownlinkPayload}
 use Rattle.events.specs.declared.stamped.EventPayload.{EventPayload}
 use Rattle.events.specs.declared.stamped.CommandPayload.{CommandPayload}
 use Rattle.packets.specs.Read.{meshOf, packetOf, ofMesh, meshSays, packetSays, carrying}

@@ -25,12 +25,12 @@ use Rattle.items.specs.declared.count.Opening.{Opening}
 use Rattle.bodies.specs.Body.{Lent}
 use Rattle.bodies.specs.declared.body.Body.{Body}
 use Rattle.bodies.specs.declared.body.Body.the-variants.{Empty, Sealed, Open, Items}
-use Rattle.payloads.specs.Read.{uplinkAt, downlinkAt, uplinkSays, downlinkSays}
-use Rattle.payloads.specs.Write.{limitedOf}
-use Rattle.payloads.specs.declared.uplink.UplinkRead.{UplinkRead}
-use Rattle.payloads.specs.declared.uplink.UplinkRead.the-variants as uplink
-use Rattle.payloads.specs.declared.downlink.DownlinkRead.{DownlinkRead}
-use Rattle.payloads.specs.declared.downlink.DownlinkRead.the-variants as downlink
+use Rattle.links.specs.Read.{uplinkAt, downlinkAt, uplinkSays, downlinkSays}
+use Rattle.links.specs.Write.{limitedOf}
+use Rattle.links.specs.declared.uplink.UplinkRead.{UplinkRead}
+use Rattle.links.specs.declared.uplink.UplinkRead.the-variants as uplink
+use Rattle.links.specs.declared.downlink.DownlinkRead.{DownlinkRead}
+use Rattle.links.specs.declared.downlink.DownlinkRead.the-variants as downlink
 use Rattle.events.specs.Read.{eventAt, commandAt, eventSays, commandSays}
 use Rattle.events.specs.declared.stamped.EventPayload.{EventPayload}
 use Rattle.events.specs.declared.stamped.EventRead.{EventRead}

@@ -30,14 +30,14 @@ use Rattle.fields.proofs.Laws.Header.{accepted, header-again}
 use Rattle.fields.proofs.Laws.Limits.{Within, read-within, UplinkId, Dr, Rssi, Snr, Channel, RelayId, Hertz, TxPower, Delay}
 use Rattle.heartbeats.specs.Heartbeat.{sixAt, entryAt, entryRefusal, entryRead, pathSays}
 use Rattle.heartbeats.specs.declared.heartbeat.PathRead.the-variants.{Entry, Refused as NoEntry}
-use Rattle.payloads.specs.Read.{fourAt, uplinkAt, downlinkAt, uplinkSays, downlinkSays}
-use Rattle.payloads.specs.declared.uplink.UplinkPayload.{UplinkPayload}
-use Rattle.payloads.specs.declared.uplink.UplinkRead.{UplinkRead}
-use Rattle.payloads.specs.declared.uplink.UplinkRead.the-variants as uplink
-use Rattle.payloads.specs.declared.downlink.DownlinkPayload.{DownlinkPayload}
-use Rattle.payloads.specs.declared.downlink.DownlinkRead.{DownlinkRead}
-use Rattle.payloads.specs.declared.downlink.DownlinkRead.the-variants as downlink
-use Rattle.payloads.proofs.Laws.{uplink-was, downlink-was}
+use Rattle.links.specs.Read.{fourAt, uplinkAt, downlinkAt, uplinkSays, downlinkSays}
+use Rattle.links.specs.declared.uplink.UplinkPayload.{UplinkPayload}
+use Rattle.links.specs.declared.uplink.UplinkRead.{UplinkRead}
+use Rattle.links.specs.declared.uplink.UplinkRead.the-variants as uplink
+use Rattle.links.specs.declared.downlink.DownlinkPayload.{DownlinkPayload}
+use Rattle.links.specs.declared.downlink.DownlinkRead.{DownlinkRead}
+use Rattle.links.specs.declared.downlink.DownlinkRead.the-variants as downlink
+use Rattle.links.proofs.Laws.{uplink-was, downlink-was}
 use Rattle.events.specs.Read.{stampedAt, eventAt, commandAt, eventSays, commandSays}
 use Rattle.events.specs.declared.stamped.EventPayload.{EventPayload}
 use Rattle.events.specs.declared.stamped.EventRead.{EventRead}

@@ -48,14 +48,14 @@ use Rattle.wire.specs.declared.run.Run.{Run}
 use Rattle.bodies.specs.Body.{Lent, heldIn, bodyRefusal, bodyBytes, bodyWire}
 use Rattle.bodies.specs.declared.body.Body.{Body}
 use Rattle.bodies.specs.declared.body.Body.the-variants.{Empty, Sealed, Open, Items}
-use Rattle.payloads.specs.Read.{uplinkAt, downlinkAt, uplinkSays, downlinkSays}
-use Rattle.payloads.specs.Write.{followed, headedBy, limited, limitedOf, withMic, uplinkHead, uplinkWire, downlinkHead, downlinkWire}
-use Rattle.payloads.specs.declared.uplink.UplinkPayload.{UplinkPayload}
-use Rattle.payloads.specs.declared.uplink.UplinkRead.{UplinkRead}
-use Rattle.payloads.specs.declared.uplink.UplinkRead.the-variants as uplink
-use Rattle.payloads.specs.declared.downlink.DownlinkPayload.{DownlinkPayload}
-use Rattle.payloads.specs.declared.downlink.DownlinkRead.{DownlinkRead}
-use Rattle.payloads.specs.declared.downlink.DownlinkRead.the-variants as downlink
+use Rattle.links.specs.Read.{uplinkAt, downlinkAt, uplinkSays, downlinkSays}
+use Rattle.links.specs.Write.{followed, headedBy, limited, limitedOf, withMic, uplinkHead, uplinkWire, downlinkHead, downlinkWire}
+use Rattle.links.specs.declared.uplink.UplinkPayload.{UplinkPayload}
+use Rattle.links.specs.declared.uplink.UplinkRead.{UplinkRead}
+use Rattle.links.specs.declared.uplink.UplinkRead.the-variants as uplink
+use Rattle.links.specs.declared.downlink.DownlinkPayload.{DownlinkPayload}
+use Rattle.links.specs.declared.downlink.DownlinkRead.{DownlinkRead}
+use Rattle.links.specs.declared.downlink.DownlinkRead.the-variants as downlink
 use Rattle.events.specs.Read.{stampedAt, asEvent, asCommand, eventAt, commandAt, eventSays, commandSays}
 use Rattle.events.specs.Write.{stamp, stampedWire, eventWire, commandWire}
 use Rattle.events.specs.declared.stamped.EventPayload.{EventPayload}

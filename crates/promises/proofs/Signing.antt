@@ -18,7 +18,7 @@ use Rattle.composed.proofs.Laws.{kinds-29}
 use Rattle.bodies.specs.Body.{Lent, bodyKinds, bodyRefusal, bodyWire}
 use Rattle.bodies.specs.declared.body.Body.{Body}
 use Rattle.bodies.specs.declared.body.Body.the-variants.{Empty, Sealed, Open, Items}
-use Rattle.payloads.specs.Write.{headedBy, limitedOf, withMic}
+use Rattle.links.specs.Write.{headedBy, limitedOf, withMic}
 use Rattle.events.specs.Write.{stamp, stampedWire, eventWire, commandWire}
 use Rattle.packets.specs.Read.{meshSays}
 use Rattle.packets.specs.Write.{payloadWire, payloadKinds, kindsIn, messageOf, meshFrame}

@@ -24,7 +24,7 @@ use Rattle.key_stream.specs.Stream.{numbered, streamed, sealedOf}
 use Rattle.key_stream.proofs.Turns.{too-long, too-short, sealed-in}
 use Rattle.items.specs.Items.{openingOf}
 use Rattle.composed.specs.inner.Passes.{capped}
-use Rattle.payloads.proofs.Steps.{Outcome, refuses, same-frame}
+use Rattle.links.proofs.Steps.{Outcome, refuses, same-frame}
 use Rattle.bodies.specs.Body.{Lent, bodyRefusal, bodyBytes}
 use Rattle.bodies.specs.declared.body.Body.{Body}
 use Rattle.bodies.specs.declared.body.Held.the-variants.{Work as InWork}

@@ -22,10 +22,10 @@ use Rattle.fields.specs.declared.header.HeaderRead.the-variants.{Header, Refuse
 use Rattle.fields.specs.declared.header.HeaderByte.{HeaderByte}
 use Rattle.fields.specs.declared.header.HeaderByte.the-variants.{Byte}
 use Rattle.fields.proofs.Laws.Header.{header-again}
-use Rattle.payloads.specs.Read.{fourAt}
+use Rattle.links.specs.Read.{fourAt}
 use Rattle.composed.specs.Composed.{Lists}
 use Rattle.bodies.specs.Body.{framed}
-use Rattle.payloads.specs.Write.{withMic}
+use Rattle.links.specs.Write.{withMic}
 use Rattle.packets.specs.Read.{bodyIn, payloadAt, withPayload, withHeader, meshOf}
 use Rattle.packets.specs.Write.{payloadWire, behind, meshFrame}
 use Rattle.packets.proofs.Laws.{message-is}

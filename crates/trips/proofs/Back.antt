@@ -20,17 +20,17 @@ use Rattle.fields.specs.declared.header.PayloadType.{PayloadType}
 use Rattle.fields.specs.declared.header.PayloadType.the-variants.{Uplink, Downlink, Event, Command}
 use Rattle.fields.proofs.Laws.Header.{header-back}
 use Rattle.wire.specs.Run.{runRefusal, runBytes, runAt}
-use Rattle.payloads.specs.Read.{uplinkAt, downlinkAt, heard}
+use Rattle.links.specs.Read.{uplinkAt, downlinkAt, heard}
 use Rattle.bodies.specs.Body.{Lent, bodyOf, bodyBytes}
 use Rattle.events.specs.Read.{eventAt, commandAt}
-use Rattle.payloads.specs.Write.{uplinkHead, uplinkWire, downlinkHead, downlinkWire}
+use Rattle.links.specs.Write.{uplinkHead, uplinkWire, downlinkHead, downlinkWire}
 use Rattle.events.specs.Write.{stamp, eventWire, commandWire}
 use Rattle.wire.specs.declared.run.Run.{Run}
-use Rattle.payloads.specs.declared.uplink.UplinkPayload.{UplinkPayload}
-use Rattle.payloads.specs.declared.downlink.DownlinkPayload.{DownlinkPayload}
+use Rattle.links.specs.declared.uplink.UplinkPayload.{UplinkPayload}
+use Rattle.links.specs.declared.downlink.DownlinkPayload.{DownlinkPayload}
 use Rattle.events.specs.declared.stamped.EventPayload.{EventPayload}
 use Rattle.events.specs.declared.stamped.CommandPayload.{CommandPayload}
-use Rattle.payloads.proofs.Laws.{run-bytes, uplink-length, downlink-length, uplink-read-back, downlink-read-back}
+use Rattle.links.proofs.Laws.{run-bytes, uplink-length, downlink-length, uplink-read-back, downlink-read-back}
 use Rattle.events.proofs.Laws.{stamp-length, stamped-bytes, event-read-back, command-read-back}
 use Rattle.packets.specs.Read.{ofUplink, ofDownlink, ofEvent, ofCommand, payloadAt, meshOf, ofMesh, packetOf, carrying}
 use Rattle.packets.specs.Write.{payloadWire, meshFrame, loraFrame}

@@ -23,28 +23,28 @@ use Rattle.fields.specs.declared.header.PayloadType.the-variants.{Uplink, Downl
 use Rattle.fields.proofs.Laws.Header.{marked, not-marked}
 use Rattle.base.proofs.Answers.{not-refused}
 use Rattle.wire.specs.Run.{runRefusal, runBytes}
-use Rattle.payloads.specs.Read.{uplinkAt, downlinkAt}
+use Rattle.links.specs.Read.{uplinkAt, downlinkAt}
 use Rattle.events.specs.Read.{eventAt, commandAt}
-use Rattle.payloads.specs.Write.{followed, withRun, uplinkHead, uplinkWire, downlinkHead, downlinkWire, headedBy}
+use Rattle.links.specs.Write.{followed, withRun, uplinkHead, uplinkWire, downlinkHead, downlinkWire, headedBy}
 use Rattle.events.specs.Write.{stamp, stampedWire, eventWire, commandWire}
 use Rattle.wire.specs.declared.run.Run.{Run}
 use Rattle.composed.specs.Composed.{Lists}
 use Rattle.bodies.specs.Body.{bodyRefusal, bodyBytes, bodyWire, framed}
 use Rattle.bodies.specs.declared.body.Body.{Body}
 use Rattle.bodies.specs.declared.body.Body.the-variants.{Empty, Sealed}
-use Rattle.payloads.specs.declared.uplink.UplinkPayload.{UplinkPayload}
-use Rattle.payloads.specs.declared.uplink.UplinkRead.{UplinkRead}
-use Rattle.payloads.specs.declared.uplink.UplinkRead.the-variants.{Payload as UplinkIs, Refused as NoUplink}
-use Rattle.payloads.specs.declared.downlink.DownlinkPayload.{DownlinkPayload}
-use Rattle.payloads.specs.declared.downlink.DownlinkRead.{DownlinkRead}
-use Rattle.payloads.specs.declared.downlink.DownlinkRead.the-variants.{Payload as DownlinkIs, Refused as NoDownlink}
+use Rattle.links.specs.declared.uplink.UplinkPayload.{UplinkPayload}
+use Rattle.links.specs.declared.uplink.UplinkRead.{UplinkRead}
+use Rattle.links.specs.declared.uplink.UplinkRead.the-variants.{Payload as UplinkIs, Refused as NoUplink}
+use Rattle.links.specs.declared.downlink.DownlinkPayload.{DownlinkPayload}
+use Rattle.links.specs.declared.downlink.DownlinkRead.{DownlinkRead}
+use Rattle.links.specs.declared.downlink.DownlinkRead.the-variants.{Payload as DownlinkIs, Refused as NoDownlink}
 use Rattle.events.specs.declared.stamped.EventPayload.{EventPayload}
 use Rattle.events.specs.declared.stamped.EventRead.{EventRead}
 use Rattle.events.specs.declared.stamped.EventRead.the-variants.{Payload as EventIs, Refused as NoEvent}
 use Rattle.events.specs.declared.stamped.CommandPayload.{CommandPayload}
 use Rattle.events.specs.declared.stamped.CommandRead.{CommandRead}
 use Rattle.events.specs.declared.stamped.CommandRead.the-variants.{Payload as CommandIs, Refused as NoCommand}
-use Rattle.payloads.proofs.Laws.{uplink-was, uplink-again, downlink-was, downlink-again}
+use Rattle.links.proofs.Laws.{uplink-was, uplink-again, downlink-was, downlink-again}
 use Rattle.events.proofs.Laws.{event-was, event-again, command-was, command-again}
 use Rattle.packets.specs.Read.{bodyIn, ofUplink, ofDownlink, ofEvent, ofCommand, payloadAt, meshOf}
 use Rattle.packets.specs.Write.{payloadWire, meshFrame}

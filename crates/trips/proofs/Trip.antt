@@ -19,9 +19,9 @@ use Rattle.fields.specs.declared.header.HeaderRead.the-variants.{Header}
 use Rattle.fields.specs.declared.header.HeaderByte.{HeaderByte}
 use Rattle.fields.specs.declared.header.HeaderByte.the-variants.{Byte, Refused as NoByte}
 use Rattle.fields.proofs.Laws.Header.{header-back}
-use Rattle.payloads.specs.Read.{fourAt}
+use Rattle.links.specs.Read.{fourAt}
 use Rattle.bodies.specs.Body.{Lent}
-use Rattle.payloads.specs.Write.{prefixed, withMic}
+use Rattle.links.specs.Write.{prefixed, withMic}
 use Rattle.packets.specs.Read.{bodyIn, payloadAt, withPayload, withHeader, meshOf}
 use Rattle.packets.specs.Write.{payloadWire, kindsIn, behind, messageOf, meshFrame}
 use Rattle.packets.specs.declared.mesh.MeshPacket.{MeshPacket}

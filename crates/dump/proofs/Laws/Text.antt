@@ -22,7 +22,7 @@ use Rattle.wire.proofs.Laws.Lay.{put-fits, put-front, put-length, put-whole, tw
 use Rattle.wire.proofs.Laws.Hex.{hex-length, hex-all, hex-back, unhex-length}
 use Rattle.fields.specs.declared.header.PayloadType.{PayloadType}
 use Rattle.fields.specs.declared.header.PayloadType.the-variants.{Uplink, Downlink, Event, Command}
-use Rattle.payloads.proofs.Steps.{Outcome}
+use Rattle.links.proofs.Steps.{Outcome}
 use Rattle.packets.specs.Read.{ofMesh, meshOf, packetOf}
 use Rattle.packets.specs.declared.mesh.Payload.{Payload}
 use Rattle.packets.specs.declared.mesh.Payload.the-variants.{Uplink as AnUplink, Downlink as ADownlink, Event as AnEvent, Command as ACommand}

@@ -6,7 +6,7 @@ use Prim.Native.Nat.{ℕ}
 use denote.Ref.{now}
 use Rattle.fips197.specs.Aes.{aes}
 use Rattle.bodies.specs.Body.{lent, bodyWire}
-use Rattle.payloads.specs.Write.{headedBy}
+use Rattle.links.specs.Write.{headedBy}
 use Rattle.events.specs.Write.{stampedWire, eventWire, commandWire}
 use Rattle.packets.specs.Write.{payloadWire}
 use Rattle.mic.proofs.Steps.{kinds-refused, header-refused, header-byte}

@@ -4,8 +4,8 @@ use denote.Ref.{now}
 use Rattle.base.specs.Answers.{bytes}
 use Rattle.base.proofs.Answers.{accepted-is, refused-is}
 use Rattle.fips197.specs.Aes.{aes}
-use Rattle.payloads.specs.Write.{downlinkHead, downlinkWire}
-use Rattle.payloads.proofs.Steps.{run-outside, run-no-head, run-behind}
+use Rattle.links.specs.Write.{downlinkHead, downlinkWire}
+use Rattle.links.proofs.Steps.{run-outside, run-no-head, run-behind}
 use Rattle.mic.proofs.Steps.{unsigned, signs}
 use borrow.Author.Needs.{needs}
 use Rattle.mic.proofs.sign_downlink.Statement.{statement}

@@ -4,8 +4,8 @@ use denote.Ref.{now}
 use Rattle.base.specs.Answers.{bytes}
 use Rattle.base.proofs.Answers.{accepted-is, refused-is}
 use Rattle.fips197.specs.Aes.{aes}
-use Rattle.payloads.specs.Write.{uplinkHead, uplinkWire}
-use Rattle.payloads.proofs.Steps.{run-outside, run-no-head, run-behind}
+use Rattle.links.specs.Write.{uplinkHead, uplinkWire}
+use Rattle.links.proofs.Steps.{run-outside, run-no-head, run-behind}
 use Rattle.mic.proofs.Steps.{unsigned, signs}
 use borrow.Author.Needs.{needs}
 use Rattle.mic.proofs.sign_uplink.Statement.{statement}

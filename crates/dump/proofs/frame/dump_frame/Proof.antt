@@ -2,7 +2,7 @@
 use mathlib.Core.Path.{sym, ap, _∙_}
 use native.Mathlib.Omega.{arith}
 use Rattle.packets.specs.declared.any.PacketRead.the-variants.{Packet as PacketIs}
-use Rattle.payloads.proofs.Steps.{same-frame}
+use Rattle.links.proofs.Steps.{same-frame}
 use Rattle.base.specs.Answers.{bytes}
 use Rattle.dump.proofs.Laws.Text.{text-of, lora-most}
 use borrow.Author.Needs.{needs}

@@ -2,7 +2,7 @@
 use mathlib.Core.Path.{ap}
 use Prim.Native.Nat.{ℕ}
 use mathlib.Core.List.{List}
-use Rattle.payloads.proofs.Steps.{same-frame}
+use Rattle.links.proofs.Steps.{same-frame}
 use Rattle.base.specs.Answers.{bytes}
 use Rattle.dump.specs.Dump.{lineOf}
 use Rattle.dump.specs.Ascii.{ascii}

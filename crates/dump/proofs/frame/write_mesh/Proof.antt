@@ -1,7 +1,7 @@
 -- `dump::frame::write_mesh` meets its contract. Assumes nothing.
 use mathlib.Core.Path.{ap}
 use Rattle.packets.specs.declared.mesh.Payload.{Payload}
-use Rattle.payloads.proofs.Steps.{same-frame}
+use Rattle.links.proofs.Steps.{same-frame}
 use Rattle.base.specs.Answers.{bytes}
 use Rattle.dump.specs.Dump.{payloadText, meshText}
 use borrow.Author.Needs.{needs}

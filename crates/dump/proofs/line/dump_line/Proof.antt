@@ -3,7 +3,7 @@ use denote.Ref.{now}
 use mathlib.Core.Path.{sym, ap, _∙_}
 use borrow.Author.Needs.{needs}
 use Rattle.base.specs.Answers.{bytes}
-use Rattle.payloads.proofs.Steps.{same-frame}
+use Rattle.links.proofs.Steps.{same-frame}
 use Rattle.dump.specs.Dump.{frameText}
 use Rattle.dump.proofs.Laws.Text.{line-bad, line-good, line-long, line-frame}
 use Rattle.dump.proofs.line.dump_line.Statement.{statement}

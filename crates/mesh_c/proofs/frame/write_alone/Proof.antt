@@ -6,7 +6,7 @@ use lib.ListN.{length}
 use Rattle.base.specs.Answers.{answerOf, outOf, refused}
 use Rattle.base.proofs.Answers.{out-length}
 use Rattle.bodies.specs.Body.{lent}
-use Rattle.payloads.specs.Write.{limitedOf}
+use Rattle.links.specs.Write.{limitedOf}
 use Rattle.packets.specs.Write.{payloadWire}
 use Rattle.packets.specs.declared.mesh.MeshPacket.{MeshPacket}
 use Rattle.packets.specs.declared.mesh.MeshRead.{MeshRead}

@@ -6,7 +6,7 @@ use denote.Ref.{now}
 use Rattle.base.specs.Answers.{refused}
 use Rattle.base.proofs.Answers.{out-length}
 use Rattle.bodies.specs.Body.{lent}
-use Rattle.payloads.proofs.Steps.{same-frame}
+use Rattle.links.proofs.Steps.{same-frame}
 use Rattle.packets.specs.Write.{packetFrame}
 use Rattle.numbers.specs.Numbers.{ifPacket, numbersFrame}
 use Rattle.numbers.proofs.Laws.{numbers-refused}

@@ -4,8 +4,8 @@ use mathlib.Core.Path.{sym, ap, _∙_}
 use denote.Ref.{now}
 use Rattle.base.specs.Answers.{bytes}
 use Rattle.base.proofs.Answers.{accepted-is, refused-is, out-length}
-use Rattle.payloads.specs.Write.{uplinkHead, uplinkWire}
-use Rattle.payloads.proofs.Steps.{run-outside, run-no-head, run-behind, frame-refused, frame-written}
+use Rattle.links.specs.Write.{uplinkHead, uplinkWire}
+use Rattle.links.proofs.Steps.{run-outside, run-no-head, run-behind, frame-refused, frame-written}
 use borrow.Author.Needs.{needs}
 use Rattle.numbers.proofs.write.write_in.Statement.{statement}
 use Rattle.numbers.proofs.write.write_in.Tie as tie

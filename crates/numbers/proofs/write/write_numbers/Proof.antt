@@ -7,7 +7,7 @@ use Rattle.base.proofs.Answers.{out-length}
 use Rattle.fields.specs.declared.header.PayloadType.the-variants.{Uplink}
 use Rattle.fields.specs.declared.header.TypeRead.{TypeRead}
 use Rattle.bodies.specs.Body.{lent}
-use Rattle.payloads.proofs.Steps.{same-frame}
+use Rattle.links.proofs.Steps.{same-frame}
 use Rattle.packets.specs.Read.{ofMesh}
 use Rattle.numbers.specs.Numbers.{typedBy}
 use Rattle.numbers.proofs.Laws.{packet-wide, uplink-mesh, numbers-refused, uplink-no-byte, uplink-frame}

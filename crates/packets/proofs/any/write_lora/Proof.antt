@@ -1,6 +1,6 @@
 -- `packets::any::write_lora` meets its contract. Assumes nothing.
 use Rattle.base.specs.Answers.{bytes}
-use Rattle.payloads.proofs.Steps.{same-frame}
+use Rattle.links.proofs.Steps.{same-frame}
 use Rattle.packets.proofs.Steps.{lora-outside, lora-long, lora-bytes}
 use borrow.Author.Needs.{needs}
 use mathlib.Core.Path.{sym, ap, _∙_}
