@@ -37,9 +37,9 @@ use Rattle.links.specs.declared.downlink.DownlinkPayload.{DownlinkPayload}
 use Rattle.links.specs.declared.downlink.DownlinkRead.{DownlinkRead}
 use Rattle.links.specs.declared.downlink.DownlinkRead.the-variants.{Payload as DownlinkIs, Refused as NoDownlink}
 use Rattle.links.proofs.Laws.{uplink-was, downlink-was}
-use Rattle.bodies.specs.Body.{bodyOf}
-use Rattle.bodies.specs.declared.body.Body.{Body}
-use Rattle.bodies.specs.declared.body.Body.the-variants.{Empty, Sealed}
+use Rattle.contents.specs.Body.{bodyOf}
+use Rattle.contents.specs.declared.body.Body.{Body}
+use Rattle.contents.specs.declared.body.Body.the-variants.{Empty, Sealed}
 use Rattle.events.specs.Read.{eventAt, commandAt}
 use Rattle.events.specs.declared.stamped.EventPayload.{EventPayload}
 use Rattle.events.specs.declared.stamped.EventRead.{EventRead}

@@ -12,11 +12,11 @@ use Rattle.wire.specs.Run.{runRefusal, runBytes}
 use Rattle.wire.specs.declared.run.Run.{Run}
 use Rattle.items.specs.Items.{pieces, openingOf, nothing}
 use Rattle.key_stream.specs.Stream.{sealedOf}
-use Rattle.bodies.specs.Body.{heldIn, payloadOf}
-use Rattle.bodies.specs.declared.body.Held.{Held}
-use Rattle.bodies.specs.declared.body.Held.the-variants.{Frame as InFrame, Work as InWork}
-use Rattle.bodies.specs.declared.body.Body.{Body}
-use Rattle.bodies.specs.declared.body.Body.the-variants.{Empty, Open}
+use Rattle.contents.specs.Body.{heldIn, payloadOf}
+use Rattle.contents.specs.declared.body.Held.{Held}
+use Rattle.contents.specs.declared.body.Held.the-variants.{Frame as InFrame, Work as InWork}
+use Rattle.contents.specs.declared.body.Body.{Body}
+use Rattle.contents.specs.declared.body.Body.the-variants.{Empty, Open}
 use Rattle.events.specs.declared.stamped.EventPayload.{EventPayload}
 use Rattle.events.specs.declared.stamped.CommandPayload.{CommandPayload}
 use Rattle.packets.specs.Read.{carrying}

@@ -16,11 +16,11 @@ use Rattle.wire.proofs.Laws.Number.{be-length, bytes-of}
 use Rattle.fields.proofs.Laws.Bytes.{none, _▸_, small}
 use Rattle.links.specs.Read.{fourAt}
 use Rattle.links.proofs.Laws.{with-four, four-is, spelt, third}
-use Rattle.bodies.specs.Body.{Lent, bodyOf, bodyRefusal, bodyBytes, bodyWire}
+use Rattle.contents.specs.Body.{Lent, bodyOf, bodyRefusal, bodyBytes, bodyWire}
 use Rattle.events.specs.Read.{stampedAt, asEvent, eventAt, asCommand, commandAt}
 use Rattle.links.specs.Write.{headedBy}
 use Rattle.events.specs.Write.{stamp, stampedWire}
-use Rattle.bodies.specs.declared.body.Body.{Body}
+use Rattle.contents.specs.declared.body.Body.{Body}
 use Rattle.events.specs.declared.stamped.EventPayload.{EventPayload}
 use Rattle.events.specs.declared.stamped.EventRead.the-variants.{Payload as AnEvent}
 use Rattle.events.specs.declared.stamped.CommandPayload.{CommandPayload}

@@ -19,7 +19,7 @@ use Rattle.composed.specs.inner.Passes.{capped}
 use Rattle.composed.proofs.Laws.{capped-is, capped-over}
 use Rattle.links.specs.Write.{prefixed, limited, limitedOf, withMic, headedBy}
 use Rattle.links.proofs.Steps.{Outcome, refuses, same-frame, body-refused, frame-refused, no-mic, frame-long, frame-whole, four-length, four-puts}
-use Rattle.bodies.specs.Body.{Lent, bodyRefusal, bodyBytes, bodyWire}
+use Rattle.contents.specs.Body.{Lent, bodyRefusal, bodyBytes, bodyWire}
 use Rattle.events.specs.Write.{stamp, stampedWire}
 use Rattle.events.specs.declared.stamped.Stamped.{Stamped}
 use Rattle.events.proofs.Laws.{stamp-length}

@@ -7,7 +7,7 @@ use Rattle.base.specs.Pick.{pick}
 use Rattle.base.specs.Numbers.{frameLong, bodyShort, bodyMost}
 use Rattle.base.specs.Answers.{Answer, value, number}
 use Rattle.links.specs.Read.{fourAt}
-use Rattle.bodies.specs.Body.{bodyOf}
+use Rattle.contents.specs.Body.{bodyOf}
 use Rattle.events.specs.declared.stamped.EventPayload.{EventPayload}
 use Rattle.events.specs.declared.stamped.EventRead.{EventRead}
 use Rattle.events.specs.declared.stamped.EventRead.the-variants.{Payload as AnEvent, Refused as NoEvent}

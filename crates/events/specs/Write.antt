@@ -5,7 +5,7 @@ use mathlib.Core.Bool.{Bool, true, false}
 use mathlib.Core.List.{List, _++_}
 use Rattle.base.specs.Answers.{Frame}
 use Rattle.wire.specs.Number.{beBytes}
-use Rattle.bodies.specs.Body.{Lent, bodyWire}
+use Rattle.contents.specs.Body.{Lent, bodyWire}
 use Rattle.events.specs.declared.stamped.EventPayload.{EventPayload}
 use Rattle.events.specs.declared.stamped.CommandPayload.{CommandPayload}
 use Rattle.events.specs.declared.stamped.Stamped.{Stamped}

@@ -2,13 +2,13 @@
 ghost use mathlib.Core.Path.{_≡_};
 ghost use Rattle.base.specs.Answers.{answerOf, outOf};
 ghost use Rattle.links.specs.Write.{limitedOf, prefixed, withMic};
-ghost use Rattle.bodies.specs.Body.{lent};
+ghost use Rattle.contents.specs.Body.{lent};
 ghost use Rattle.events.specs.Read.{stampedAt, eventAt, commandAt};
 ghost use Rattle.events.specs.Write.{stamp, stampedOfEvent, stampedOfCommand, eventWire, commandWire, stampedWire};
 use base::Limit;
 use base::Refusal;
 use base::Written;
-use bodies::Body;
+use contents::Body;
 use wire::be32_bytes;
 use wire::be32_of;
 use wire::put_all;

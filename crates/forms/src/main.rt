@@ -5,11 +5,11 @@ mod lent;
 
 use base::Checked;
 use base::Written;
-use bodies::Body;
-use bodies::Held;
 use cache::Cache;
 use cache::CacheAnswer;
 use cache::PayloadCache;
+use contents::Body;
+use contents::Held;
 use events::CommandPayload;
 use events::CommandRead;
 use events::EventPayload;

@@ -25,7 +25,7 @@ use Rattle.heartbeats.specs.declared.heartbeat.HeartbeatPayload.{HeartbeatPaylo
 use Rattle.items.specs.Items.{kindCode, Found, keptItem, skippedItem, cutTail, noItem}
 use Rattle.items.specs.declared.item.Item.{Item}
 use Rattle.items.specs.declared.count.Opening.{Opening}
-use Rattle.bodies.specs.Body.{Lent}
+use Rattle.contents.specs.Body.{Lent}
 use Rattle.links.specs.Write.{limitedOf}
 use Rattle.packets.specs.Write.{payloadWire}
 use Rattle.sealing.specs.Mesh.{sealOf, meshSealed, meshDecrypted, meshWork, meshDecoded}

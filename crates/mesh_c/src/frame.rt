@@ -4,7 +4,7 @@ ghost use lib.IntN.{pos};
 ghost use Rattle.base.specs.Answers.{answerOf, outOf, numberIn, leftBy, writtenSays, checkedOf, checkedNumber};
 ghost use Rattle.fips197.specs.Aes.{aes};
 ghost use Rattle.fields.specs.Header.{typeRead};
-ghost use Rattle.bodies.specs.Body.{lent};
+ghost use Rattle.contents.specs.Body.{lent};
 ghost use Rattle.links.specs.Write.{limitedOf};
 ghost use Rattle.packets.specs.Read.{packetSays, packetOf, meshSays, meshOf};
 ghost use Rattle.packets.specs.Write.{payloadWire};

@@ -22,8 +22,8 @@ use Rattle.cmac_chain.specs.inner.State.{begun, absorb1, finished}
 use Rattle.cmac_chain.specs.declared.Mac.{Mac}
 use Rattle.cmac_chain.proofs.Laws.{finish-tag, tag-same}
 use Rattle.links.specs.Write.{prefixed, headedBy}
-use Rattle.bodies.specs.Body.{Lent, bodyRefusal, bodyBytes, bodyWire}
-use Rattle.bodies.specs.declared.body.Body.{Body}
+use Rattle.contents.specs.Body.{Lent, bodyRefusal, bodyBytes, bodyWire}
+use Rattle.contents.specs.declared.body.Body.{Body}
 use Rattle.base.proofs.Answers.{is-refused, not-refused}
 use Rattle.fields.specs.Header.{headerByte}
 use Rattle.fields.specs.declared.header.HeaderByte.{HeaderByte}

@@ -14,9 +14,9 @@ use Rattle.fields.specs.declared.header.PayloadType.{PayloadType}
 use Rattle.fields.specs.declared.header.PayloadType.the-variants.{Uplink, Downlink, Event, Command}
 use Rattle.fields.specs.declared.header.TypeRead.the-variants.{Kind}
 use Rattle.fields.proofs.Laws.Header.{type-back}
-use Rattle.bodies.specs.declared.body.Held.the-variants.{Frame as InFrame, Work as InWork}
-use Rattle.bodies.specs.declared.body.Body.{Body}
-use Rattle.bodies.specs.declared.body.Body.the-variants.{Empty, Sealed, Open, Items}
+use Rattle.contents.specs.declared.body.Held.the-variants.{Frame as InFrame, Work as InWork}
+use Rattle.contents.specs.declared.body.Body.{Body}
+use Rattle.contents.specs.declared.body.Body.the-variants.{Empty, Sealed, Open, Items}
 use Rattle.packets.specs.Read.{ofMesh}
 use Rattle.packets.specs.declared.mesh.Payload.{Payload}
 use Rattle.packets.specs.declared.mesh.Payload.the-variants.{Uplink as AnUplink, Downlink as ADownlink, Event as AnEvent, Command as ACommand}

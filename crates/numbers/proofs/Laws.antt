@@ -19,7 +19,7 @@ use Rattle.fields.specs.declared.header.HeaderByte.{HeaderByte}
 use Rattle.fields.specs.declared.header.HeaderByte.the-variants.{Byte, Refused as NoByte}
 use Rattle.fields.specs.declared.header.PayloadType.the-variants.{Uplink}
 use Rattle.fields.specs.declared.header.TypeRead.the-variants.{Kind, Refused as NoKind}
-use Rattle.bodies.specs.Body.{Lent}
+use Rattle.contents.specs.Body.{Lent}
 use Rattle.links.specs.Write.{prefixed, withMic, uplinkWire}
 use Rattle.links.specs.declared.uplink.UplinkPayload.{UplinkPayload}
 use Rattle.links.proofs.Steps.{Outcome, refuses, same-frame}

@@ -12,9 +12,9 @@ use Rattle.fields.specs.declared.header.MHDR.{MHDR}
 use Rattle.fields.specs.declared.header.PayloadType.{PayloadType}
 use Rattle.fields.specs.declared.header.PayloadType.the-variants.{Uplink, Downlink, Event, Command}
 use Rattle.fields.specs.declared.header.HeaderRead.the-variants.{Header, Refused as NoHeader}
-use Rattle.bodies.specs.declared.body.Held.the-variants.{Frame as InFrame, Work as InWork}
-use Rattle.bodies.specs.declared.body.Body.{Body}
-use Rattle.bodies.specs.declared.body.Body.the-variants.{Empty, Sealed, Open, Items}
+use Rattle.contents.specs.declared.body.Held.the-variants.{Frame as InFrame, Work as InWork}
+use Rattle.contents.specs.declared.body.Body.{Body}
+use Rattle.contents.specs.declared.body.Body.the-variants.{Empty, Sealed, Open, Items}
 use Rattle.links.specs.Read.{fourAt, uplinkAt, downlinkAt}
 use Rattle.links.specs.declared.uplink.UplinkRead.{UplinkRead}
 use Rattle.links.specs.declared.downlink.DownlinkRead.{DownlinkRead}

@@ -17,10 +17,10 @@ use Rattle.fields.specs.declared.header.PayloadType.{PayloadType}
 use Rattle.fields.specs.declared.header.PayloadType.the-variants.{Uplink, Downlink, Event, Command}
 use Rattle.fields.specs.declared.header.TypeRead.{TypeRead}
 use Rattle.fields.specs.declared.header.TypeRead.the-variants.{Kind, Refused as NoKind}
-use Rattle.bodies.specs.Body.{Lent}
-use Rattle.bodies.specs.declared.body.Held.the-variants.{Frame as InFrame, Work as InWork}
-use Rattle.bodies.specs.declared.body.Body.{Body}
-use Rattle.bodies.specs.declared.body.Body.the-variants.{Empty, Sealed, Open, Items}
+use Rattle.contents.specs.Body.{Lent}
+use Rattle.contents.specs.declared.body.Held.the-variants.{Frame as InFrame, Work as InWork}
+use Rattle.contents.specs.declared.body.Body.{Body}
+use Rattle.contents.specs.declared.body.Body.the-variants.{Empty, Sealed, Open, Items}
 use Rattle.links.specs.Read.{uplinkAt, downlinkAt}
 use Rattle.links.specs.declared.uplink.UplinkPayload.{UplinkPayload}
 use Rattle.links.specs.declared.downlink.DownlinkPayload.{DownlinkPayload}

@@ -5,8 +5,8 @@ ghost use Rattle.numbers.specs.Numbers.{payloadPlace, atMost, tooWide, s
 use crate::Code;
 use crate::read::body_place;
 use base::Refusal;
-use bodies::Body;
-use bodies::Held;
+use contents::Body;
+use contents::Held;
 use events::CommandPayload;
 use events::EventPayload;
 use fields::Channel;

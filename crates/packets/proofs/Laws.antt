@@ -8,8 +8,8 @@ use Rattle.base.specs.Numbers.{typeLarge}
 use Rattle.base.specs.Answers.{Frame, bytes, refused}
 use Rattle.base.proofs.Answers.{is-refused, not-refused}
 use Rattle.fields.specs.Header.{headerByte}
-use Rattle.bodies.specs.Body.{Lent}
-use Rattle.bodies.proofs.Laws.{known-body, no-lists, body-29}
+use Rattle.contents.specs.Body.{Lent}
+use Rattle.contents.proofs.Laws.{known-body, no-lists, body-29}
 use Rattle.events.specs.Write.{eventWire, commandWire, stampedOfEvent, stampedOfCommand}
 use Rattle.events.proofs.Laws.{stamped-fine}
 use Rattle.packets.specs.Write.{payloadWire, payloadKinds, kindsIn, behind, messageOf}

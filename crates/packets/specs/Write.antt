@@ -12,7 +12,7 @@ use Rattle.fields.specs.Header.{headerByte}
 use Rattle.fields.specs.declared.header.HeaderByte.{HeaderByte}
 use Rattle.fields.specs.declared.header.HeaderByte.the-variants.{Byte, Refused as NoByte}
 use Rattle.wire.specs.Run.{runRefusal, runBytes}
-use Rattle.bodies.specs.Body.{Lent, bodyKinds}
+use Rattle.contents.specs.Body.{Lent, bodyKinds}
 use Rattle.links.specs.Write.{prefixed, withMic, uplinkWire, downlinkWire}
 use Rattle.events.specs.Write.{eventWire, commandWire}
 use Rattle.wire.specs.declared.run.Run.{Run}

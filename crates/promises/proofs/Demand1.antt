@@ -14,9 +14,9 @@ use Rattle.base.specs.Pick.{pick}
 use Rattle.base.specs.Numbers.{outputShort, cacheMost}
 use Rattle.base.specs.Answers.{Answer, value, number, Frame, bytes, refused, answerOf, outOf, writtenSays, checkedOf, checkedSays, leftBy}
 use Rattle.base.proofs.Answers.{out-length}
-use Rattle.bodies.specs.Body.{Lent}
-use Rattle.bodies.specs.declared.body.Body.{Body}
-use Rattle.bodies.specs.declared.body.Body.the-variants.{Empty, Sealed, Open, Items}
+use Rattle.contents.specs.Body.{Lent}
+use Rattle.contents.specs.declared.body.Body.{Body}
+use Rattle.contents.specs.declared.body.Body.the-variants.{Empty, Sealed, Open, Items}
 use Rattle.fields.specs.declared.path.RelayPath.{RelayPath}
 use Rattle.base.specs.declared.Written.{Written}
 use Rattle.base.specs.declared.Written.the-variants.{Bytes, Refused}

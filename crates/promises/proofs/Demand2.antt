@@ -25,7 +25,7 @@ use Rattle.fields.specs.declared.header.PayloadType.the-variants.{Uplink, Downl
 use Rattle.items.specs.Items.{openingOf}
 use Rattle.items.proofs.Laws.{bytes-sum}
 use Rattle.composed.specs.Composed.{Lists}
-use Rattle.bodies.specs.Body.{Lent, bodyOf, bodyBytes, framed}
+use Rattle.contents.specs.Body.{Lent, bodyOf, bodyBytes, framed}
 use Rattle.links.specs.Write.{downlinkHead}
 use Rattle.links.specs.Read.{heard}
 use Rattle.links.specs.declared.uplink.UplinkPayload.{UplinkPayload}

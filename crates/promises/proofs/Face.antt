@@ -22,9 +22,9 @@ use Rattle.fields.specs.declared.header.PayloadType.the-variants as type
 use Rattle.fields.specs.declared.header.TypeRead.{TypeRead}
 use Rattle.fields.specs.declared.header.TypeRead.the-variants.{Kind, Refused as NoKind}
 use Rattle.items.specs.declared.count.Opening.{Opening}
-use Rattle.bodies.specs.Body.{Lent}
-use Rattle.bodies.specs.declared.body.Body.{Body}
-use Rattle.bodies.specs.declared.body.Body.the-variants.{Empty, Sealed, Open, Items}
+use Rattle.contents.specs.Body.{Lent}
+use Rattle.contents.specs.declared.body.Body.{Body}
+use Rattle.contents.specs.declared.body.Body.the-variants.{Empty, Sealed, Open, Items}
 use Rattle.links.specs.Read.{uplinkAt, downlinkAt, uplinkSays, downlinkSays}
 use Rattle.links.specs.Write.{limitedOf}
 use Rattle.links.specs.declared.uplink.UplinkRead.{UplinkRead}

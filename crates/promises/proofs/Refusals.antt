@@ -45,9 +45,9 @@ use Rattle.wire.specs.Number.{beBytes}
 use Rattle.wire.specs.Hex.{allHex}
 use Rattle.wire.specs.Run.{runRefusal, runBytes}
 use Rattle.wire.specs.declared.run.Run.{Run}
-use Rattle.bodies.specs.Body.{Lent, heldIn, bodyRefusal, bodyBytes, bodyWire}
-use Rattle.bodies.specs.declared.body.Body.{Body}
-use Rattle.bodies.specs.declared.body.Body.the-variants.{Empty, Sealed, Open, Items}
+use Rattle.contents.specs.Body.{Lent, heldIn, bodyRefusal, bodyBytes, bodyWire}
+use Rattle.contents.specs.declared.body.Body.{Body}
+use Rattle.contents.specs.declared.body.Body.the-variants.{Empty, Sealed, Open, Items}
 use Rattle.links.specs.Read.{uplinkAt, downlinkAt, uplinkSays, downlinkSays}
 use Rattle.links.specs.Write.{followed, headedBy, limited, limitedOf, withMic, uplinkHead, uplinkWire, downlinkHead, downlinkWire}
 use Rattle.links.specs.declared.uplink.UplinkPayload.{UplinkPayload}

@@ -15,9 +15,9 @@ use Rattle.base.specs.Answers.{value, number, Frame, bytes, refused, unlessRefu
 use Rattle.wire.specs.Number.{beBytes}
 use Rattle.composed.specs.Composed.{verdictOf}
 use Rattle.composed.proofs.Laws.{kinds-29}
-use Rattle.bodies.specs.Body.{Lent, bodyKinds, bodyRefusal, bodyWire}
-use Rattle.bodies.specs.declared.body.Body.{Body}
-use Rattle.bodies.specs.declared.body.Body.the-variants.{Empty, Sealed, Open, Items}
+use Rattle.contents.specs.Body.{Lent, bodyKinds, bodyRefusal, bodyWire}
+use Rattle.contents.specs.declared.body.Body.{Body}
+use Rattle.contents.specs.declared.body.Body.the-variants.{Empty, Sealed, Open, Items}
 use Rattle.links.specs.Write.{headedBy, limitedOf, withMic}
 use Rattle.events.specs.Write.{stamp, stampedWire, eventWire, commandWire}
 use Rattle.packets.specs.Read.{meshSays}

@@ -20,9 +20,9 @@ use Rattle.key_stream.proofs.Laws.{seal-twice}
 use Rattle.items.specs.Items.{openingOf}
 use Rattle.items.proofs.Laws.{no-pieces}
 use Rattle.composed.specs.Composed.{Lists}
-use Rattle.bodies.specs.Body.{Lent, framed, bodyOf, bodyRefusal, bodyBytes}
-use Rattle.bodies.specs.declared.body.Body.{Body}
-use Rattle.bodies.specs.declared.body.Body.the-variants.{Empty, Sealed}
+use Rattle.contents.specs.Body.{Lent, framed, bodyOf, bodyRefusal, bodyBytes}
+use Rattle.contents.specs.declared.body.Body.{Body}
+use Rattle.contents.specs.declared.body.Body.the-variants.{Empty, Sealed}
 use Rattle.events.specs.declared.stamped.EventPayload.{EventPayload}
 use Rattle.events.specs.declared.stamped.CommandPayload.{CommandPayload}
 use Rattle.sealing.specs.Open.{nothingIn, sealWire, openedBy, decryptOf}

@@ -25,9 +25,9 @@ use Rattle.key_stream.proofs.Turns.{too-long, too-short, sealed-in}
 use Rattle.items.specs.Items.{openingOf}
 use Rattle.composed.specs.inner.Passes.{capped}
 use Rattle.links.proofs.Steps.{Outcome, refuses, same-frame}
-use Rattle.bodies.specs.Body.{Lent, bodyRefusal, bodyBytes}
-use Rattle.bodies.specs.declared.body.Body.{Body}
-use Rattle.bodies.specs.declared.body.Held.the-variants.{Work as InWork}
+use Rattle.contents.specs.Body.{Lent, bodyRefusal, bodyBytes}
+use Rattle.contents.specs.declared.body.Body.{Body}
+use Rattle.contents.specs.declared.body.Held.the-variants.{Work as InWork}
 use Rattle.events.proofs.Steps.{capped-small, capped-large}
 use Rattle.sealing.specs.declared.body.Opened.{Opened}
 use Rattle.sealing.specs.declared.body.Opened.the-variants.{Refused}

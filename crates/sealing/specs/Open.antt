@@ -13,11 +13,11 @@ use Rattle.wire.specs.declared.run.Run.{Run}
 use Rattle.items.specs.Items.{openingOf, nothing}
 use Rattle.items.specs.declared.count.Opening.{Opening}
 use Rattle.key_stream.specs.Stream.{sealedOf}
-use Rattle.bodies.specs.Body.{heldIn}
-use Rattle.bodies.specs.declared.body.Held.{Held}
-use Rattle.bodies.specs.declared.body.Held.the-variants.{Frame as InFrame, Work as InWork}
-use Rattle.bodies.specs.declared.body.Body.{Body}
-use Rattle.bodies.specs.declared.body.Body.the-variants.{Empty, Sealed, Open, Items}
+use Rattle.contents.specs.Body.{heldIn}
+use Rattle.contents.specs.declared.body.Held.{Held}
+use Rattle.contents.specs.declared.body.Held.the-variants.{Frame as InFrame, Work as InWork}
+use Rattle.contents.specs.declared.body.Body.{Body}
+use Rattle.contents.specs.declared.body.Body.the-variants.{Empty, Sealed, Open, Items}
 use Rattle.sealing.specs.declared.body.Opened.{Opened}
 use Rattle.sealing.specs.declared.body.Opened.the-variants.{Opened as Now, AlreadyOpen, Refused}
 

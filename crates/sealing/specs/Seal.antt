@@ -6,8 +6,8 @@ use Rattle.base.specs.Answers.{Frame, Answer, value, number, unlessRefused}
 use Rattle.base.specs.declared.Written.{Written}
 use Rattle.base.specs.declared.Written.the-variants.{Bytes, Refused}
 use Rattle.key_stream.specs.Stream.{sealedOf}
-use Rattle.bodies.specs.Body.{Lent, bodyOf, bodyRefusal, bodyBytes}
-use Rattle.bodies.specs.declared.body.Body.{Body}
+use Rattle.contents.specs.Body.{Lent, bodyOf, bodyRefusal, bodyBytes}
+use Rattle.contents.specs.declared.body.Body.{Body}
 use Rattle.events.specs.declared.stamped.EventPayload.{EventPayload}
 use Rattle.events.specs.declared.stamped.EventRead.{EventRead}
 use Rattle.events.specs.declared.stamped.EventRead.the-variants.{Payload as EventIs, Refused as EventIsNot}

@@ -2,16 +2,16 @@
 // work buffer, or are read in the frame as it stands, and are counted.
 ghost use mathlib.Core.Path.{_≡_};
 ghost use Rattle.base.specs.Answers.{answerOf, outOf};
-ghost use Rattle.bodies.specs.Body.{lent};
+ghost use Rattle.contents.specs.Body.{lent};
 ghost use Rattle.sealing.specs.Open.{openRefusal, nothingIn, openedAs, openedBy, sealWire, readSealed, refuseOpen, tellOpen, decryptOf, workAfter, decodeOf};
 ghost use Rattle.sealing.specs.Seal.{bodySeal};
 use base::Limit;
 use base::Refusal;
 use base::Written;
-use bodies::Body;
-use bodies::Held;
-use bodies::held_in;
 use cipher::prepare;
+use contents::Body;
+use contents::Held;
+use contents::held_in;
 use items::Opening;
 use items::count_items;
 use key_stream::add_stream;

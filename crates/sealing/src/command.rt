@@ -2,13 +2,13 @@
 ghost use mathlib.Core.Path.{_≡_};
 ghost use mathlib.Core.Bool.{Bool};
 ghost use Rattle.base.specs.Answers.{answerOf, outOf};
-ghost use Rattle.bodies.specs.Body.{lent};
+ghost use Rattle.contents.specs.Body.{lent};
 ghost use Rattle.sealing.specs.Open.{decryptOf, workAfter, decodeOf};
 ghost use Rattle.sealing.specs.Seal.{commandSeal, commandSealed, commandOpened};
 use crate::body;
 use crate::body::Opened;
 use base::Written;
-use bodies::Body;
+use contents::Body;
 use events::CommandPayload;
 use events::CommandRead;
 use items::Opening;

@@ -21,7 +21,7 @@ use Rattle.fields.specs.declared.header.PayloadType.the-variants.{Uplink, Downl
 use Rattle.fields.proofs.Laws.Header.{header-back}
 use Rattle.wire.specs.Run.{runRefusal, runBytes, runAt}
 use Rattle.links.specs.Read.{uplinkAt, downlinkAt, heard}
-use Rattle.bodies.specs.Body.{Lent, bodyOf, bodyBytes}
+use Rattle.contents.specs.Body.{Lent, bodyOf, bodyBytes}
 use Rattle.events.specs.Read.{eventAt, commandAt}
 use Rattle.links.specs.Write.{uplinkHead, uplinkWire, downlinkHead, downlinkWire}
 use Rattle.events.specs.Write.{stamp, eventWire, commandWire}

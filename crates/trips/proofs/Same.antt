@@ -29,9 +29,9 @@ use Rattle.links.specs.Write.{followed, withRun, uplinkHead, uplinkWire, downli
 use Rattle.events.specs.Write.{stamp, stampedWire, eventWire, commandWire}
 use Rattle.wire.specs.declared.run.Run.{Run}
 use Rattle.composed.specs.Composed.{Lists}
-use Rattle.bodies.specs.Body.{bodyRefusal, bodyBytes, bodyWire, framed}
-use Rattle.bodies.specs.declared.body.Body.{Body}
-use Rattle.bodies.specs.declared.body.Body.the-variants.{Empty, Sealed}
+use Rattle.contents.specs.Body.{bodyRefusal, bodyBytes, bodyWire, framed}
+use Rattle.contents.specs.declared.body.Body.{Body}
+use Rattle.contents.specs.declared.body.Body.the-variants.{Empty, Sealed}
 use Rattle.links.specs.declared.uplink.UplinkPayload.{UplinkPayload}
 use Rattle.links.specs.declared.uplink.UplinkRead.{UplinkRead}
 use Rattle.links.specs.declared.uplink.UplinkRead.the-variants.{Payload as UplinkIs, Refused as NoUplink}

@@ -5,7 +5,7 @@ use mathlib.Core.List.{List}
 use Prim.Native.Nat.{ℕ}
 use denote.Ref.{now}
 use Rattle.fips197.specs.Aes.{aes}
-use Rattle.bodies.specs.Body.{lent, bodyWire}
+use Rattle.contents.specs.Body.{lent, bodyWire}
 use Rattle.links.specs.Write.{headedBy}
 use Rattle.events.specs.Write.{stampedWire, eventWire, commandWire}
 use Rattle.packets.specs.Write.{payloadWire}

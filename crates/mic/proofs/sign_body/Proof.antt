@@ -12,7 +12,7 @@ use Rattle.fips197.specs.Aes.{aes}
 use Rattle.cipher.specs.inner.Words.{enciphered}
 use Rattle.cmac_chain.specs.inner.State.{absorb1}
 use Rattle.cmac_chain.specs.declared.Mac.{Mac}
-use Rattle.bodies.specs.Body.{lent, bodyBytes}
+use Rattle.contents.specs.Body.{lent, bodyBytes}
 use Rattle.mic.proofs.Steps.{unsigned, signs, over, wire-refused, wire-bytes, mic-is}
 use Rattle.composed.proofs.Laws.{capped-is, capped-over}
 use borrow.Author.Needs.{needs}

@@ -8,7 +8,7 @@ use Rattle.wire.specs.Run.{runBytes}
 use Rattle.cipher.specs.inner.Words.{enciphered}
 use Rattle.cmac_chain.specs.inner.State.{absorb1}
 use Rattle.kept.specs.Kept.{openBytes}
-use Rattle.bodies.specs.Body.{bodyBytes}
+use Rattle.contents.specs.Body.{bodyBytes}
 use Rattle.mic.proofs.Bytes.{part-lt, open-lt}
 use borrow.Author.Needs.{needs}
 use Rattle.mic.proofs.absorb.absorb_body.Statement.{statement}

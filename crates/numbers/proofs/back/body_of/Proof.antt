@@ -2,8 +2,8 @@
 use mathlib.Core.Path.{ap}
 use borrow.Author.Tests.{eq-eqb, ne-eqb}
 use Rattle.wire.specs.declared.run.Run.{Run}
-use Rattle.bodies.specs.declared.body.Held.the-variants.{Frame, Work}
-use Rattle.bodies.specs.declared.body.Body.the-variants.{Sealed, Open, Items}
+use Rattle.contents.specs.declared.body.Held.the-variants.{Frame, Work}
+use Rattle.contents.specs.declared.body.Body.the-variants.{Sealed, Open, Items}
 use Rattle.numbers.specs.Numbers.{bodyFrom}
 use borrow.Author.Needs.{needs}
 use Rattle.numbers.proofs.back.body_of.Statement.{statement}

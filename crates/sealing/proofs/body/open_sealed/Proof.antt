@@ -4,7 +4,7 @@ use denote.Ref.{now}
 use lib.ListN.{length}
 use Rattle.base.proofs.Answers.{out-length, is-refused}
 use Rattle.items.specs.Items.{openingOf}
-use Rattle.bodies.specs.declared.body.Held.the-variants.{Work as InWork}
+use Rattle.contents.specs.declared.body.Held.the-variants.{Work as InWork}
 use Rattle.sealing.specs.Open.{openedAs}
 use Rattle.sealing.proofs.Steps.{frame-refused, seal-is, not-opened, now-opened}
 use borrow.Author.Needs.{needs}

@@ -2,7 +2,7 @@
 use mathlib.Core.Path.{ap, _∙_}
 use borrow.Author.Tests.{lt-ltb, le-ltb}
 use Rattle.items.specs.Items.{openingOf}
-use Rattle.bodies.specs.declared.body.Held.the-variants.{Frame as InFrame}
+use Rattle.contents.specs.declared.body.Held.the-variants.{Frame as InFrame}
 use Rattle.sealing.specs.Open.{readSealed, openedAs}
 use Rattle.sealing.proofs.Steps.{is-refused, is-passed}
 use borrow.Author.Needs.{needs}

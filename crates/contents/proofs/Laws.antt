@@ -5,9 +5,9 @@ use mathlib.Core.List.{List, []}
 use Prim.Native.Nat.{ℕ}
 use Rattle.base.specs.Numbers.{typeLarge}
 use Rattle.composed.proofs.Laws.{known-kinds, no-kinds, kinds-29}
-use Rattle.bodies.specs.Body.{Lent, bodyKinds, bodyRefusal}
-use Rattle.bodies.specs.declared.body.Body.{Body}
-use Rattle.bodies.specs.declared.body.Body.the-variants.{Empty, Sealed, Open, Items}
+use Rattle.contents.specs.Body.{Lent, bodyKinds, bodyRefusal}
+use Rattle.contents.specs.declared.body.Body.{Body}
+use Rattle.contents.specs.declared.body.Body.the-variants.{Empty, Sealed, Open, Items}
 
 pub known-body : (ev : Bool) (l : Lent) (b : Body) → bodyRefusal ev l b ≡ 0 → bodyKinds ev (l .lists .kinds) (l .lists .spans) b ≡ 0
 unfolding bodyRefusal bodyKinds

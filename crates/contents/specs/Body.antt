@@ -11,10 +11,10 @@ use Rattle.wire.specs.Run.{runRefusal, runBytes}
 use Rattle.kept.specs.Kept.{openBytes}
 use Rattle.heartbeats.specs.Paths.{paths}
 use Rattle.composed.specs.Composed.{Lists, kindsRefusal, verdictOf, composedBytes}
-use Rattle.bodies.specs.declared.body.Held.{Held}
-use Rattle.bodies.specs.declared.body.Held.the-variants.{Frame as InFrame, Work as InWork}
-use Rattle.bodies.specs.declared.body.Body.{Body}
-use Rattle.bodies.specs.declared.body.Body.the-variants.{Empty, Sealed, Open, Items}
+use Rattle.contents.specs.declared.body.Held.{Held}
+use Rattle.contents.specs.declared.body.Held.the-variants.{Frame as InFrame, Work as InWork}
+use Rattle.contents.specs.declared.body.Body.{Body}
+use Rattle.contents.specs.declared.body.Body.the-variants.{Empty, Sealed, Open, Items}
 
 -- no bytes after the relay id means no items
 abbrev pub bodyOf : ℕ → ℕ → Body

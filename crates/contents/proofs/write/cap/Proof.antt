@@ -1,8 +1,8 @@
--- `bodies::write::cap` meets its contract. Assumes nothing.
+-- `contents::write::cap` meets its contract. Assumes nothing.
 use borrow.Author.Needs.{needs}
 use borrow.Author.Tests.{lt-ltb, le-ltb}
-use Rattle.bodies.proofs.write.cap.Statement.{statement}
-use Rattle.bodies.proofs.write.cap.Tie as tie
+use Rattle.contents.proofs.write.cap.Statement.{statement}
+use Rattle.contents.proofs.write.cap.Tie as tie
 
 returns : tie.Need-returns
 returns c = simp (lt-ltb _ _ (c .if1 .taken))

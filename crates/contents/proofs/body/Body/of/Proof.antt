@@ -1,7 +1,7 @@
--- `bodies::body::Body::of` meets its contract. Assumes nothing.
+-- `contents::body::Body::of` meets its contract. Assumes nothing.
 use borrow.Author.Tests.{eq-eqb, ne-eqb}
-use Rattle.bodies.proofs.body.Body.of.Statement.{statement}
-use Rattle.bodies.proofs.body.Body.of.Tie as tie
+use Rattle.contents.proofs.body.Body.of.Statement.{statement}
+use Rattle.contents.proofs.body.Body.of.Tie as tie
 
 returns : tie.Need-returns
 returns c = simp (eq-eqb _ _ (c .if1 .taken))

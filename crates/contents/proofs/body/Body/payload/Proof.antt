@@ -1,8 +1,8 @@
--- `bodies::body::Body::payload` meets its contract. Assumes nothing.
-use Rattle.bodies.specs.Body.{payloadOf}
+-- `contents::body::Body::payload` meets its contract. Assumes nothing.
+use Rattle.contents.specs.Body.{payloadOf}
 use borrow.Author.Needs.{needs}
-use Rattle.bodies.proofs.body.Body.payload.Statement.{statement}
-use Rattle.bodies.proofs.body.Body.payload.Tie as tie
+use Rattle.contents.proofs.body.Body.payload.Statement.{statement}
+use Rattle.contents.proofs.body.Body.payload.Tie as tie
 
 returns : tie.Need-returns
 unfolding payloadOf

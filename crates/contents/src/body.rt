@@ -2,7 +2,7 @@
 ghost use mathlib.Core.Path.{_≡_};
 ghost use lib.ListN.{length};
 ghost use Rattle.wire.specs.Run.{runRefusal, runBytes};
-ghost use Rattle.bodies.specs.Body.{bodyOf, heldIn, payloadOf};
+ghost use Rattle.contents.specs.Body.{bodyOf, heldIn, payloadOf};
 use items::Item;
 use wire::Run;
 

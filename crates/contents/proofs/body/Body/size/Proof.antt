@@ -1,4 +1,4 @@
--- `bodies::body::Body::size` meets its contract. Assumes nothing.
+-- `contents::body::Body::size` meets its contract. Assumes nothing.
 use mathlib.Core.Path.{ap, _∙_}
 use mathlib.Core.List.{List}
 use Prim.Native.Nat.{ℕ}
@@ -7,10 +7,10 @@ use Rattle.wire.specs.Run.{runBytes}
 use Rattle.kept.specs.Kept.{openBytes}
 use Rattle.kept.proofs.Laws.{told}
 use Rattle.composed.specs.inner.Passes.{capped}
-use Rattle.bodies.specs.Body.{bodyBytes}
+use Rattle.contents.specs.Body.{bodyBytes}
 use borrow.Author.Needs.{needs}
-use Rattle.bodies.proofs.body.Body.size.Statement.{statement}
-use Rattle.bodies.proofs.body.Body.size.Tie as tie
+use Rattle.contents.proofs.body.Body.size.Statement.{statement}
+use Rattle.contents.proofs.body.Body.size.Tie as tie
 
 returns : tie.Need-returns
 unfolding bodyBytes

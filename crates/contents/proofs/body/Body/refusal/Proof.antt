@@ -1,13 +1,13 @@
--- `bodies::body::Body::refusal` meets its contract. Assumes nothing.
+-- `contents::body::Body::refusal` meets its contract. Assumes nothing.
 use mathlib.Core.Path.{ap, _∙_}
 use mathlib.Core.List.{List}
 use Prim.Native.Nat.{ℕ}
 use lib.ListN.{length}
 use Rattle.wire.specs.Run.{runRefusal}
-use Rattle.bodies.specs.Body.{bodyRefusal}
+use Rattle.contents.specs.Body.{bodyRefusal}
 use borrow.Author.Needs.{needs}
-use Rattle.bodies.proofs.body.Body.refusal.Statement.{statement}
-use Rattle.bodies.proofs.body.Body.refusal.Tie as tie
+use Rattle.contents.proofs.body.Body.refusal.Statement.{statement}
+use Rattle.contents.proofs.body.Body.refusal.Tie as tie
 
 returns : tie.Need-returns
 unfolding bodyRefusal

@@ -1,12 +1,12 @@
--- `bodies::body::Body::value` meets its contract. Assumes nothing.
+-- `contents::body::Body::value` meets its contract. Assumes nothing.
 use mathlib.Core.Path.{ap, _∙_}
 use mathlib.Core.List.{List}
 use Prim.Native.Nat.{ℕ}
 use lib.ListN.{length}
 use Rattle.wire.specs.Run.{runRefusal, runBytes}
 use borrow.Author.Needs.{needs}
-use Rattle.bodies.proofs.body.Body.value.Statement.{statement}
-use Rattle.bodies.proofs.body.Body.value.Tie as tie
+use Rattle.contents.proofs.body.Body.value.Statement.{statement}
+use Rattle.contents.proofs.body.Body.value.Tie as tie
 
 returns : tie.Need-returns
 returns c = let r = c .before .before .before .before .before .before .args .item .value in

@@ -1,4 +1,4 @@
--- `bodies::body::Body::put` meets its contract. Assumes nothing.
+-- `contents::body::Body::put` meets its contract. Assumes nothing.
 use mathlib.Core.Path.{ap, _∙_}
 use mathlib.Core.List.{List}
 use Prim.Native.Nat.{ℕ}
@@ -8,10 +8,10 @@ use Rattle.wire.specs.Lay.{put}
 use Rattle.wire.specs.Run.{runBytes}
 use Rattle.wire.proofs.Laws.Lay.{put-nil, put-length}
 use Rattle.kept.specs.Kept.{openBytes}
-use Rattle.bodies.specs.Body.{bodyBytes}
+use Rattle.contents.specs.Body.{bodyBytes}
 use borrow.Author.Needs.{needs}
-use Rattle.bodies.proofs.body.Body.put.Statement.{statement}
-use Rattle.bodies.proofs.body.Body.put.Tie as tie
+use Rattle.contents.proofs.body.Body.put.Statement.{statement}
+use Rattle.contents.proofs.body.Body.put.Tie as tie
 
 returns : tie.Need-returns
 unfolding bodyBytes

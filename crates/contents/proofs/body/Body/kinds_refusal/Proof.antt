@@ -1,8 +1,8 @@
--- `bodies::body::Body::kinds_refusal` meets its contract. Assumes nothing.
-use Rattle.bodies.specs.Body.{bodyKinds}
+-- `contents::body::Body::kinds_refusal` meets its contract. Assumes nothing.
+use Rattle.contents.specs.Body.{bodyKinds}
 use borrow.Author.Needs.{needs}
-use Rattle.bodies.proofs.body.Body.kinds_refusal.Statement.{statement}
-use Rattle.bodies.proofs.body.Body.kinds_refusal.Tie as tie
+use Rattle.contents.proofs.body.Body.kinds_refusal.Statement.{statement}
+use Rattle.contents.proofs.body.Body.kinds_refusal.Tie as tie
 
 returns : tie.Need-returns
 unfolding bodyKinds

@@ -3,7 +3,7 @@ ghost use mathlib.Core.Path.{_≡_};
 ghost use lib.ListN.{length};
 ghost use Rattle.wire.specs.Lay.{put};
 ghost use Rattle.composed.specs.inner.Passes.{capped};
-ghost use Rattle.bodies.specs.Body.{lent, bodyKinds, bodyRefusal, bodyBytes};
+ghost use Rattle.contents.specs.Body.{lent, bodyKinds, bodyRefusal, bodyBytes};
 use crate::body::Body;
 use crate::body::held_in;
 use base::Limit;

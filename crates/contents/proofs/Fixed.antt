@@ -4,22 +4,22 @@ use mathlib.Core.List.{List}
 use Prim.Native.Nat.{ℕ}
 use denote.Ref.{now}
 use Rattle.base.proofs.Outcome.{Fixed, FixedPart}
-use Rattle.bodies.proofs.body.held_in.Kinds as held-in-kinds
-use Rattle.bodies.proofs.body.held_in.Reads as held-in-reads
-use Rattle.bodies.proofs.body.Body.of.Kinds as body-of-kinds
-use Rattle.bodies.proofs.body.Body.of.Reads as body-of-reads
-use Rattle.bodies.proofs.body.Body.payload.Kinds as body-payload-kinds
-use Rattle.bodies.proofs.body.Body.payload.Reads as body-payload-reads
-use Rattle.bodies.proofs.body.Body.value.Kinds as body-value-kinds
-use Rattle.bodies.proofs.body.Body.value.Reads as body-value-reads
-use Rattle.bodies.proofs.body.Body.kinds_refusal.Kinds as body-kinds-refusal-kinds
-use Rattle.bodies.proofs.body.Body.kinds_refusal.Reads as body-kinds-refusal-reads
-use Rattle.bodies.proofs.body.Body.refusal.Kinds as body-refusal-kinds
-use Rattle.bodies.proofs.body.Body.refusal.Reads as body-refusal-reads
-use Rattle.bodies.proofs.body.Body.size.Kinds as body-size-kinds
-use Rattle.bodies.proofs.body.Body.size.Reads as body-size-reads
-use Rattle.bodies.proofs.body.Body.put.Kinds as body-put-kinds
-use Rattle.bodies.proofs.body.Body.put.Reads as body-put-reads
+use Rattle.contents.proofs.body.held_in.Kinds as held-in-kinds
+use Rattle.contents.proofs.body.held_in.Reads as held-in-reads
+use Rattle.contents.proofs.body.Body.of.Kinds as body-of-kinds
+use Rattle.contents.proofs.body.Body.of.Reads as body-of-reads
+use Rattle.contents.proofs.body.Body.payload.Kinds as body-payload-kinds
+use Rattle.contents.proofs.body.Body.payload.Reads as body-payload-reads
+use Rattle.contents.proofs.body.Body.value.Kinds as body-value-kinds
+use Rattle.contents.proofs.body.Body.value.Reads as body-value-reads
+use Rattle.contents.proofs.body.Body.kinds_refusal.Kinds as body-kinds-refusal-kinds
+use Rattle.contents.proofs.body.Body.kinds_refusal.Reads as body-kinds-refusal-reads
+use Rattle.contents.proofs.body.Body.refusal.Kinds as body-refusal-kinds
+use Rattle.contents.proofs.body.Body.refusal.Reads as body-refusal-reads
+use Rattle.contents.proofs.body.Body.size.Kinds as body-size-kinds
+use Rattle.contents.proofs.body.Body.size.Reads as body-size-reads
+use Rattle.contents.proofs.body.Body.put.Kinds as body-put-kinds
+use Rattle.contents.proofs.body.Body.put.Reads as body-put-reads
 
 held-in : FixedPart 1 held-in-kinds.ps held-in-kinds.r held-in-reads.Post (λ κs x. now x)
 held-in κs a x y v w p q = (p ∙ sym q, refl)
