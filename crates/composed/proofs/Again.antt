@@ -23,8 +23,8 @@ use Rattle.items.specs.declared.item.ItemKind.the-variants.{Heartbeat, Propriet
 use Rattle.items.specs.declared.item.ItemRead.{ItemRead}
 use Rattle.items.specs.declared.item.ItemRead.the-variants.{Kept, Skipped, Cut, End, Refused}
 use Rattle.items.proofs.Laws.{turn, nearer, stays, kept-whole}
-use Rattle.kept.specs.Kept.{itemBytes, keptWire, openBytes}
-use Rattle.kept.proofs.Loop.{kept-ahead, skipped-ahead, cut-ahead, end-ahead}
+use Rattle.kept_items.specs.Kept.{itemBytes, keptWire, openBytes}
+use Rattle.kept_items.proofs.Loop.{kept-ahead, skipped-ahead, cut-ahead, end-ahead}
 use Rattle.composed.specs.Composed.{Lists, tagOf, itemCount, itemIn, itemsIn, isPath, badKind, outsideOf, badPath, longOf, unevenOf, kindsRefusal, verdictOf, valueOf, itemWire, composedBytes, composedWire, kindAndTag, placeAndLength, lentBack}
 use Rattle.composed.specs.declared.Composed.{Composed}
 

@@ -18,7 +18,7 @@ use Rattle.fields.specs.Path.{sixOf}
 use Rattle.heartbeats.specs.Paths.{pathCount, pathRun}
 use Rattle.heartbeats.proofs.Runs.{held-le, path-length}
 use Rattle.items.specs.Items.{isBeat}
-use Rattle.kept.specs.Kept.{fixed}
+use Rattle.kept_items.specs.Kept.{fixed}
 use Rattle.composed.specs.Composed.{Lists, lists, itemCount, itemIn, itemsIn, isPath, badKind, outsideOf, badPath, longOf, unevenOf, kindsRefusal, verdictOf, valueOf, composedBytes}
 use Rattle.composed.specs.inner.Passes.{capped}
 use Rattle.composed.specs.declared.Composed.{Composed}

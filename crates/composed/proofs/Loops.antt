@@ -13,7 +13,7 @@ use Rattle.wire.proofs.Laws.Lay.{put-none, puts-join, Joining, joining-none, jo
 use Rattle.fields.specs.Path.{sixOf}
 use Rattle.heartbeats.specs.Paths.{PathLists, pathCount, pathRun, heldOf}
 use Rattle.heartbeats.proofs.Loops.{path-bytes}
-use Rattle.kept.specs.Kept.{headed}
+use Rattle.kept_items.specs.Kept.{headed}
 use Rattle.composed.specs.Composed.{Lists, lists, itemCount, itemIn, itemsIn, outsideOf, badPath, valueOf, itemWire, composedBytes}
 use Rattle.composed.specs.inner.Passes.{faultOf, totalOf}
 use Rattle.composed.specs.declared.Composed.{Composed}

@@ -19,7 +19,7 @@ use Rattle.fields.specs.Path.{sixOf}
 use Rattle.heartbeats.specs.Paths.{pathCount, pathRun, heldOf}
 use Rattle.heartbeats.proofs.Runs.{held-le, path-length}
 use Rattle.items.specs.Items.{isBeat, badBeat}
-use Rattle.kept.specs.Kept.{headed, fixed, itemBytes}
+use Rattle.kept_items.specs.Kept.{headed, fixed, itemBytes}
 use Rattle.composed.specs.Composed.{Lists, lists, tagOf, itemIn, isPath, valueOf, itemWire}
 use Rattle.composed.specs.inner.Passes.{pairAt}
 use Rattle.composed.specs.declared.Composed.{Composed}

@@ -15,7 +15,7 @@ use Rattle.fields.specs.Path.{badEntry, sixOf}
 use Rattle.heartbeats.specs.Paths.{PathLists, paths, pathCount, pathRun}
 use Rattle.items.specs.Items.{isBeat, badBeat, heartbeatKind, proprietaryKind, pathKind, kindCode, listedItems}
 use Rattle.items.specs.declared.item.Item.{Item}
-use Rattle.kept.specs.Kept.{headed, fixed}
+use Rattle.kept_items.specs.Kept.{headed, fixed}
 use Rattle.composed.specs.declared.Composed.{Composed}
 
 -- what is lent: of each item kind and tag, and place and length; the entries of paths in three lists; and the bytes of values

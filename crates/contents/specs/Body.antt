@@ -8,7 +8,7 @@ use lib.ListN.{length}
 use Rattle.base.specs.Pick.{pick}
 use Rattle.base.specs.Answers.{Frame, bytes, unlessRefused}
 use Rattle.wire.specs.Run.{runRefusal, runBytes}
-use Rattle.kept.specs.Kept.{openBytes}
+use Rattle.kept_items.specs.Kept.{openBytes}
 use Rattle.heartbeats.specs.Paths.{paths}
 use Rattle.composed.specs.Composed.{Lists, kindsRefusal, verdictOf, composedBytes}
 use Rattle.contents.specs.declared.body.Held.{Held}

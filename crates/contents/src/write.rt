@@ -11,7 +11,7 @@ use composed::kinds_refusal;
 use composed::put_composed;
 use composed::verdict;
 use items::count_items;
-use kept::put_kept;
+use kept_items::put_kept;
 use wire::put_all;
 
 fn cap(n: usize) -> usize

@@ -13,7 +13,7 @@ use Rattle.base.proofs.Bytes.{none-lt, append-lt}
 use Rattle.base.proofs.Lists.{_◂_, imap-length}
 use Rattle.cmac_chain.specs.inner.State.{absorb1}
 use Rattle.cmac_chain.specs.declared.Mac.{Mac}
-use Rattle.kept.specs.Kept.{headed, fixed, itemBytes}
+use Rattle.kept_items.specs.Kept.{headed, fixed, itemBytes}
 
 pub record Left (E : List ℕ → List ℕ) (m : Mac) (all : List ℕ) (a : Mac) (rest : List ℕ) : Type 0 where
   pub same : foldl (absorb1 E) m all ≡ foldl (absorb1 E) a rest

@@ -24,7 +24,7 @@ use Rattle.fields.specs.declared.path.RelayPath.{RelayPath}
 use Rattle.fields.proofs.Laws.Signal.{rssi-byte-lt, snr-byte-lt}
 use Rattle.heartbeats.specs.Paths.{PathLists, pathAt, pathRun, pathCount}
 use Rattle.items.specs.Items.{isBeat, badBeat, kept, skipped, cut, pieces}
-use Rattle.kept.specs.Kept.{headed, fixed, itemBytes, keptWire, openBytes}
+use Rattle.kept_items.specs.Kept.{headed, fixed, itemBytes, keptWire, openBytes}
 use Rattle.composed.specs.Composed.{Lists, isPath, valueOf, itemWire}
 use Rattle.composed.specs.declared.Composed.{Composed}
 use Rattle.contents.specs.Body.{heldIn}

@@ -6,7 +6,7 @@ ghost use Rattle.base.specs.Lists.{Bytes, imap, joined};
 ghost use Rattle.cipher.specs.inner.Words.{enciphered};
 ghost use Rattle.cmac_chain.specs.inner.State.{absorb1};
 ghost use Rattle.fields.specs.Path.{sixOf};
-ghost use Rattle.kept.specs.Kept.{headed, fixed, itemBytes, openBytes};
+ghost use Rattle.kept_items.specs.Kept.{headed, fixed, itemBytes, openBytes};
 ghost use Rattle.heartbeats.specs.Paths.{paths, pathRun};
 ghost use Rattle.composed.specs.Composed.{lists, itemWire, composedBytes};
 ghost use Rattle.contents.specs.Body.{lent, bodyBytes};
@@ -26,8 +26,8 @@ use heartbeats::held;
 use heartbeats::path_count;
 use items::ItemRead;
 use items::next_item;
-use kept::is_beat;
-use kept::low_byte;
+use kept_items::is_beat;
+use kept_items::low_byte;
 use wire::Run;
 
 // A heartbeat's value, an entry at a time; less than an entry is left over as it is.

@@ -39,7 +39,7 @@ use Rattle.heartbeats.proofs.Laws.{refused-entries, taken-entries, beat-back}
 use Rattle.items.specs.Items.{badBeat, itemAt, Turn, walkedTo, keptItem, noItem, itemSays, listedItems}
 use Rattle.items.specs.declared.item.Item.{Item}
 use Rattle.items.proofs.Laws.{turn, walk-ends, kept-whole}
-use Rattle.kept.specs.Kept.{openBytes}
+use Rattle.kept_items.specs.Kept.{openBytes}
 use Rattle.composed.specs.Composed.{composedWire, lentBack}
 use Rattle.composed.proofs.Again.{written-back}
 use Rattle.packets.specs.Read.{meshOf, meshSays}

@@ -8,7 +8,7 @@ use denote.Ref.{now}
 use Rattle.base.specs.Lists.{imap}
 use Rattle.cipher.specs.inner.Words.{enciphered}
 use Rattle.cmac_chain.proofs.Turns.{rest-is}
-use Rattle.kept.specs.Kept.{fixed}
+use Rattle.kept_items.specs.Kept.{fixed}
 use Rattle.mic.proofs.Absorbing.{Left, left-more, left-last, sixFrom, entry-ahead, left-over}
 use borrow.Author.Needs.{needs}
 use Rattle.mic.proofs.absorb.absorb_beat.Statement.{statement}

@@ -7,7 +7,7 @@ use Rattle.base.proofs.Bytes.{none-lt}
 use Rattle.wire.specs.Run.{runBytes}
 use Rattle.cipher.specs.inner.Words.{enciphered}
 use Rattle.cmac_chain.specs.inner.State.{absorb1}
-use Rattle.kept.specs.Kept.{openBytes}
+use Rattle.kept_items.specs.Kept.{openBytes}
 use Rattle.contents.specs.Body.{bodyBytes}
 use Rattle.mic.proofs.Bytes.{part-lt, open-lt}
 use borrow.Author.Needs.{needs}

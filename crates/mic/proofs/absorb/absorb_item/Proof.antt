@@ -3,8 +3,8 @@ use mathlib.Core.Bool.{Bool}
 use mathlib.Core.Path.{ap, sym, _∙_}
 use denote.Ref.{now}
 use Rattle.base.specs.Lists.{imap}
-use Rattle.kept.specs.Kept.{fixed}
-use Rattle.kept.proofs.Laws.{fixed-plain}
+use Rattle.kept_items.specs.Kept.{fixed}
+use Rattle.kept_items.proofs.Laws.{fixed-plain}
 use Rattle.mic.proofs.Absorbing.{item-more}
 use borrow.Author.Needs.{needs}
 use Rattle.mic.proofs.absorb.absorb_item.Statement.{statement}

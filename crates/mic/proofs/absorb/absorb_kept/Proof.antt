@@ -6,8 +6,8 @@ use lib.ListN.{length, drop}
 use Rattle.cipher.specs.inner.Words.{enciphered}
 use Rattle.items.specs.Items.{pieces}
 use Rattle.items.proofs.Laws.{turn}
-use Rattle.kept.specs.Kept.{itemBytes, keptWire, openBytes}
-use Rattle.kept.proofs.Loop.{kept-ahead, skipped-ahead, cut-ahead, end-ahead}
+use Rattle.kept_items.specs.Kept.{itemBytes, keptWire, openBytes}
+use Rattle.kept_items.proofs.Loop.{kept-ahead, skipped-ahead, cut-ahead, end-ahead}
 use Rattle.mic.proofs.Absorbing.{Left, left-more, left-same, left-none}
 use borrow.Author.Needs.{needs}
 use Rattle.mic.proofs.absorb.absorb_kept.Statement.{statement}

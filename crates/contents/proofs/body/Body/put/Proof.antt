@@ -7,7 +7,7 @@ use denote.Ref.{now}
 use Rattle.wire.specs.Lay.{put}
 use Rattle.wire.specs.Run.{runBytes}
 use Rattle.wire.proofs.Laws.Lay.{put-nil, put-length}
-use Rattle.kept.specs.Kept.{openBytes}
+use Rattle.kept_items.specs.Kept.{openBytes}
 use Rattle.contents.specs.Body.{bodyBytes}
 use borrow.Author.Needs.{needs}
 use Rattle.contents.proofs.body.Body.put.Statement.{statement}

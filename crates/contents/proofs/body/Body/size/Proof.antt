@@ -4,8 +4,8 @@ use mathlib.Core.List.{List}
 use Prim.Native.Nat.{ℕ}
 use lib.ListN.{length}
 use Rattle.wire.specs.Run.{runBytes}
-use Rattle.kept.specs.Kept.{openBytes}
-use Rattle.kept.proofs.Laws.{told}
+use Rattle.kept_items.specs.Kept.{openBytes}
+use Rattle.kept_items.proofs.Laws.{told}
 use Rattle.composed.specs.inner.Passes.{capped}
 use Rattle.contents.specs.Body.{bodyBytes}
 use borrow.Author.Needs.{needs}

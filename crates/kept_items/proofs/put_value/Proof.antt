@@ -1,4 +1,4 @@
--- `kept::put_value` meets its contract. Assumes nothing.
+-- `kept_items::put_value` meets its contract. Assumes nothing.
 use lib.ListN.{length}
 use Prim.Native.Nat.{_-_, _+_, _≤_, _<_}
 use native.Mathlib.Omega.{arith}
@@ -6,11 +6,11 @@ use denote.Ref.{now}
 use Rattle.base.specs.Lists.{imap}
 use Rattle.base.proofs.Lists.{imap-length}
 use Rattle.wire.proofs.Laws.Lay.{Laying, laying-none, laying-done}
-use Rattle.kept.specs.Kept.{fixed}
-use Rattle.kept.proofs.Laws.{value-none, value-more}
+use Rattle.kept_items.specs.Kept.{fixed}
+use Rattle.kept_items.proofs.Laws.{value-none, value-more}
 use borrow.Author.Needs.{needs}
-use Rattle.kept.proofs.put_value.Statement.{statement}
-use Rattle.kept.proofs.put_value.Tie as tie
+use Rattle.kept_items.proofs.put_value.Statement.{statement}
+use Rattle.kept_items.proofs.put_value.Tie as tie
 
 abbrev Inv-loop : tie.InvT-loop
 Inv-loop beat value out₀ at i₀ out i =

@@ -1,14 +1,14 @@
--- `kept::put_item` meets its contract. Assumes nothing.
+-- `kept_items::put_item` meets its contract. Assumes nothing.
 use lib.ListN.{length}
 use Prim.Native.Nat.{_-_, _+_, _≤_, _<_}
 use native.Mathlib.Omega.{arith}
 use mathlib.Core.Path.{ap, _∙_}
 use denote.Ref.{now}
 use Rattle.wire.proofs.Laws.Lay.{put-length}
-use Rattle.kept.proofs.Laws.{item-none, item-laid}
+use Rattle.kept_items.proofs.Laws.{item-none, item-laid}
 use borrow.Author.Needs.{needs}
-use Rattle.kept.proofs.put_item.Statement.{statement}
-use Rattle.kept.proofs.put_item.Tie as tie
+use Rattle.kept_items.proofs.put_item.Statement.{statement}
+use Rattle.kept_items.proofs.put_item.Tie as tie
 
 returns : tie.Need-returns
 returns c = let a = c .before .before .before .args in item-none (a .beat) (a .tag) (now (a .value)) (now (a .out)) (a .at) (let h : length (now (c .before .before .before .args .out)) < c .before .before .before .args .at + (2 + length (now (c .before .before .before .args .value))) = omega arith in h)

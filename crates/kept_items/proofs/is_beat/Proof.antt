@@ -1,6 +1,6 @@
--- `kept::is_beat` meets its contract. Assumes nothing.
-use Rattle.kept.proofs.is_beat.Statement.{statement}
-use Rattle.kept.proofs.is_beat.Tie as tie
+-- `kept_items::is_beat` meets its contract. Assumes nothing.
+use Rattle.kept_items.proofs.is_beat.Statement.{statement}
+use Rattle.kept_items.proofs.is_beat.Tie as tie
 
 returns : tie.Need-returns
 returns c = simp (c .if1 .taken)

@@ -1,4 +1,4 @@
--- `kept::put_kept` meets its contract. Assumes nothing.
+-- `kept_items::put_kept` meets its contract. Assumes nothing.
 use lib.ListN.{length}
 use Prim.Native.Nat.{_-_, _+_, _≤_, _<_}
 use native.Mathlib.Omega.{arith}
@@ -6,12 +6,12 @@ use mathlib.Core.Path.{sym, _∙_}
 use denote.Ref.{now}
 use Rattle.wire.proofs.Laws.Lay.{put-none, joining-same}
 use Rattle.items.proofs.Laws.{turn}
-use Rattle.kept.proofs.Laws.{told}
-use Rattle.kept.proofs.Loop.{Sofar, none-yet, room, one-kept, one-skipped, at-cut, at-end}
-use Rattle.kept.specs.Kept.{openBytes}
+use Rattle.kept_items.proofs.Laws.{told}
+use Rattle.kept_items.proofs.Loop.{Sofar, none-yet, room, one-kept, one-skipped, at-cut, at-end}
+use Rattle.kept_items.specs.Kept.{openBytes}
 use borrow.Author.Needs.{needs}
-use Rattle.kept.proofs.put_kept.Statement.{statement}
-use Rattle.kept.proofs.put_kept.Tie as tie
+use Rattle.kept_items.proofs.put_kept.Statement.{statement}
+use Rattle.kept_items.proofs.put_kept.Tie as tie
 
 abbrev Inv-loop : tie.InvT-loop
 Inv-loop is-event payload out₀ at n p₀ o₀ out p o =

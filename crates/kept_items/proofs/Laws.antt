@@ -11,7 +11,7 @@ use Rattle.wire.specs.Lay.{put}
 use Rattle.wire.proofs.Laws.Lay.{put-none, puts-join, Laying, laying-more}
 use Rattle.items.specs.Items.{isBeat, Piece, kept, skipped, cut, pieces, keptBytes, openingOf}
 use Rattle.items.specs.declared.count.Opening.{Opening}
-use Rattle.kept.specs.Kept.{fixed, itemBytes, keptWire, openBytes}
+use Rattle.kept_items.specs.Kept.{fixed, itemBytes, keptWire, openBytes}
 
 -- a value that is no heartbeat's is written as it is
 pub fixed-plain : (v : List ℕ) → imap (fixed false) 0 v ≡ v

@@ -4,7 +4,7 @@ ghost use Prim.Native.Nat.{_%_};
 ghost use Rattle.base.specs.Lists.{imap};
 ghost use Rattle.wire.specs.Lay.{put};
 ghost use Rattle.items.specs.Items.{isBeat};
-ghost use Rattle.kept.specs.Kept.{fixed, itemBytes, openBytes};
+ghost use Rattle.kept_items.specs.Kept.{fixed, itemBytes, openBytes};
 use base::Limit;
 use items::ItemRead;
 use items::count_items;

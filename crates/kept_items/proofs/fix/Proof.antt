@@ -1,8 +1,8 @@
--- `kept::fix` meets its contract. Assumes nothing.
-use Rattle.kept.specs.Kept.{fixed}
+-- `kept_items::fix` meets its contract. Assumes nothing.
+use Rattle.kept_items.specs.Kept.{fixed}
 use borrow.Author.Tests.{eq-eqb, ne-eqb}
-use Rattle.kept.proofs.fix.Statement.{statement}
-use Rattle.kept.proofs.fix.Tie as tie
+use Rattle.kept_items.proofs.fix.Statement.{statement}
+use Rattle.kept_items.proofs.fix.Tie as tie
 
 returns : tie.Need-returns
 unfolding fixed

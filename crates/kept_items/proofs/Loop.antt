@@ -16,8 +16,8 @@ use Rattle.items.specs.Items.{isBeat, pieces, itemAt}
 use Rattle.items.specs.declared.item.Item.{Item}
 use Rattle.items.specs.declared.item.ItemRead.the-variants.{Kept, Skipped, Cut, End}
 use Rattle.items.proofs.Laws.{turn}
-use Rattle.kept.specs.Kept.{itemBytes, keptWire, openBytes}
-use Rattle.kept.proofs.Laws.{item-length}
+use Rattle.kept_items.specs.Kept.{itemBytes, keptWire, openBytes}
+use Rattle.kept_items.proofs.Laws.{item-length}
 
 -- ---- from a place on
 
