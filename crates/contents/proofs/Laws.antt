@@ -4,7 +4,7 @@ use mathlib.Core.Path.{_≡_, refl}
 use mathlib.Core.List.{List, []}
 use Prim.Native.Nat.{ℕ}
 use Rattle.base.specs.Numbers.{typeLarge}
-use Rattle.composed.proofs.Laws.{known-kinds, no-kinds, kinds-29}
+use Rattle.composed_items.proofs.Laws.{known-kinds, no-kinds, kinds-29}
 use Rattle.contents.specs.Body.{Lent, bodyKinds, bodyRefusal}
 use Rattle.contents.specs.declared.body.Body.{Body}
 use Rattle.contents.specs.declared.body.Body.the-variants.{Empty, Sealed, Open, Items}

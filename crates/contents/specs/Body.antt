@@ -10,7 +10,7 @@ use Rattle.base.specs.Answers.{Frame, bytes, unlessRefused}
 use Rattle.wire.specs.Run.{runRefusal, runBytes}
 use Rattle.kept_items.specs.Kept.{openBytes}
 use Rattle.heartbeats.specs.Paths.{paths}
-use Rattle.composed.specs.Composed.{Lists, kindsRefusal, verdictOf, composedBytes}
+use Rattle.composed_items.specs.Composed.{Lists, kindsRefusal, verdictOf, composedBytes}
 use Rattle.contents.specs.declared.body.Held.{Held}
 use Rattle.contents.specs.declared.body.Held.the-variants.{Frame as InFrame, Work as InWork}
 use Rattle.contents.specs.declared.body.Body.{Body}

@@ -2,14 +2,14 @@
 ghost use mathlib.Core.Path.{_≡_};
 ghost use lib.ListN.{length};
 ghost use Rattle.wire.specs.Lay.{put};
-ghost use Rattle.composed.specs.inner.Passes.{capped};
+ghost use Rattle.composed_items.specs.inner.Passes.{capped};
 ghost use Rattle.contents.specs.Body.{lent, bodyKinds, bodyRefusal, bodyBytes};
 use crate::body::Body;
 use crate::body::held_in;
 use base::Limit;
-use composed::kinds_refusal;
-use composed::put_composed;
-use composed::verdict;
+use composed_items::kinds_refusal;
+use composed_items::put_composed;
+use composed_items::verdict;
 use items::count_items;
 use kept_items::put_kept;
 use wire::put_all;
@@ -80,7 +80,16 @@ impl Body {
                 let told = count_items(run.bytes(held_in(held, frame, work)), is_event);
                 cap(told.kept_bytes)
             }
-            Body::Items(n) => composed::size(is_event, n, kinds, spans, ids, rssis, snrs, work),
+            Body::Items(n) => composed_items::size(
+                is_event,
+                n,
+                kinds,
+                spans,
+                ids,
+                rssis,
+                snrs,
+                work,
+            ),
         }
     }
 

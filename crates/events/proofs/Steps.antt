@@ -15,8 +15,8 @@ use Rattle.wire.specs.Lay.{put}
 use Rattle.wire.specs.Number.{beBytes}
 use Rattle.wire.proofs.Laws.Lay.{put-front, two-puts}
 use Rattle.wire.proofs.Laws.Number.{be-length}
-use Rattle.composed.specs.inner.Passes.{capped}
-use Rattle.composed.proofs.Laws.{capped-is, capped-over}
+use Rattle.composed_items.specs.inner.Passes.{capped}
+use Rattle.composed_items.proofs.Laws.{capped-is, capped-over}
 use Rattle.links.specs.Write.{prefixed, limited, limitedOf, withMic, headedBy}
 use Rattle.links.proofs.Steps.{Outcome, refuses, same-frame, body-refused, frame-refused, no-mic, frame-long, frame-whole, four-length, four-puts}
 use Rattle.contents.specs.Body.{Lent, bodyRefusal, bodyBytes, bodyWire}

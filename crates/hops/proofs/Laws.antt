@@ -20,7 +20,7 @@ use Rattle.fields.specs.declared.header.PayloadType.the-variants.{Uplink, Downl
 use Rattle.fields.specs.declared.header.HeaderByte.{HeaderByte}
 use Rattle.fields.specs.declared.header.HeaderByte.the-variants.{Byte, Refused as NoByte}
 use Rattle.links.specs.Write.{withMic}
-use Rattle.composed.specs.Composed.{Lists}
+use Rattle.composed_items.specs.Composed.{Lists}
 use Rattle.packets.specs.Read.{bodyIn, meshOf}
 use Rattle.packets.specs.Write.{payloadWire, behind, messageOf, meshFrame}
 use Rattle.packets.proofs.Laws.{message-alone}

@@ -25,8 +25,8 @@ use Rattle.fields.proofs.Laws.Signal.{rssi-byte-lt, snr-byte-lt}
 use Rattle.heartbeats.specs.Paths.{PathLists, pathAt, pathRun, pathCount}
 use Rattle.items.specs.Items.{isBeat, badBeat, kept, skipped, cut, pieces}
 use Rattle.kept_items.specs.Kept.{headed, fixed, itemBytes, keptWire, openBytes}
-use Rattle.composed.specs.Composed.{Lists, isPath, valueOf, itemWire}
-use Rattle.composed.specs.declared.Composed.{Composed}
+use Rattle.composed_items.specs.Composed.{Lists, isPath, valueOf, itemWire}
+use Rattle.composed_items.specs.declared.Composed.{Composed}
 use Rattle.contents.specs.Body.{heldIn}
 use Rattle.contents.specs.declared.body.Held.{Held}
 use Rattle.contents.specs.declared.body.Held.the-variants.{Frame as InFrame, Work as InWork}

@@ -24,7 +24,7 @@ use Rattle.key_stream.proofs.Laws.{block-1, block-256, repeats, seal-twice}
 use Rattle.fields.specs.declared.header.PayloadType.the-variants.{Uplink, Downlink, Event, Command}
 use Rattle.items.specs.Items.{openingOf}
 use Rattle.items.proofs.Laws.{bytes-sum}
-use Rattle.composed.specs.Composed.{Lists}
+use Rattle.composed_items.specs.Composed.{Lists}
 use Rattle.contents.specs.Body.{Lent, bodyOf, bodyBytes, framed}
 use Rattle.links.specs.Write.{downlinkHead}
 use Rattle.links.specs.Read.{heard}

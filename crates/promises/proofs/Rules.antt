@@ -40,8 +40,8 @@ use Rattle.items.specs.Items.{badBeat, itemAt, Turn, walkedTo, keptItem, noItem
 use Rattle.items.specs.declared.item.Item.{Item}
 use Rattle.items.proofs.Laws.{turn, walk-ends, kept-whole}
 use Rattle.kept_items.specs.Kept.{openBytes}
-use Rattle.composed.specs.Composed.{composedWire, lentBack}
-use Rattle.composed.proofs.Again.{written-back}
+use Rattle.composed_items.specs.Composed.{composedWire, lentBack}
+use Rattle.composed_items.proofs.Again.{written-back}
 use Rattle.packets.specs.Read.{meshOf, meshSays}
 use Rattle.trips.specs.Which.{leastFrame, meshNumber}
 use Rattle.cache.specs.inner.Ring.{newOf}

@@ -13,8 +13,8 @@ use Rattle.base.specs.Lists.{orElse}
 use Rattle.base.proofs.Answers.{is-refused}
 use Rattle.base.specs.Answers.{value, number, Frame, bytes, refused, unlessRefused, frameNumber, numberIn, answerOf, writtenSays}
 use Rattle.wire.specs.Number.{beBytes}
-use Rattle.composed.specs.Composed.{verdictOf}
-use Rattle.composed.proofs.Laws.{kinds-29}
+use Rattle.composed_items.specs.Composed.{verdictOf}
+use Rattle.composed_items.proofs.Laws.{kinds-29}
 use Rattle.contents.specs.Body.{Lent, bodyKinds, bodyRefusal, bodyWire}
 use Rattle.contents.specs.declared.body.Body.{Body}
 use Rattle.contents.specs.declared.body.Body.the-variants.{Empty, Sealed, Open, Items}

@@ -19,7 +19,7 @@ use Rattle.key_stream.specs.Stream.{streamed, sealedOf}
 use Rattle.key_stream.proofs.Laws.{seal-twice}
 use Rattle.items.specs.Items.{openingOf}
 use Rattle.items.proofs.Laws.{no-pieces}
-use Rattle.composed.specs.Composed.{Lists}
+use Rattle.composed_items.specs.Composed.{Lists}
 use Rattle.contents.specs.Body.{Lent, framed, bodyOf, bodyRefusal, bodyBytes}
 use Rattle.contents.specs.declared.body.Body.{Body}
 use Rattle.contents.specs.declared.body.Body.the-variants.{Empty, Sealed}

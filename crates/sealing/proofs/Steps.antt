@@ -23,7 +23,7 @@ use Rattle.cipher.specs.inner.Words.{prepared, enciphered}
 use Rattle.key_stream.specs.Stream.{numbered, streamed, sealedOf}
 use Rattle.key_stream.proofs.Turns.{too-long, too-short, sealed-in}
 use Rattle.items.specs.Items.{openingOf}
-use Rattle.composed.specs.inner.Passes.{capped}
+use Rattle.composed_items.specs.inner.Passes.{capped}
 use Rattle.links.proofs.Steps.{Outcome, refuses, same-frame}
 use Rattle.contents.specs.Body.{Lent, bodyRefusal, bodyBytes}
 use Rattle.contents.specs.declared.body.Body.{Body}

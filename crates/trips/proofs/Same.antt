@@ -28,7 +28,7 @@ use Rattle.events.specs.Read.{eventAt, commandAt}
 use Rattle.links.specs.Write.{followed, withRun, uplinkHead, uplinkWire, downlinkHead, downlinkWire, headedBy}
 use Rattle.events.specs.Write.{stamp, stampedWire, eventWire, commandWire}
 use Rattle.wire.specs.declared.run.Run.{Run}
-use Rattle.composed.specs.Composed.{Lists}
+use Rattle.composed_items.specs.Composed.{Lists}
 use Rattle.contents.specs.Body.{bodyRefusal, bodyBytes, bodyWire, framed}
 use Rattle.contents.specs.declared.body.Body.{Body}
 use Rattle.contents.specs.declared.body.Body.the-variants.{Empty, Sealed}

@@ -14,7 +14,7 @@ use Rattle.cmac_chain.specs.inner.State.{absorb1}
 use Rattle.cmac_chain.specs.declared.Mac.{Mac}
 use Rattle.contents.specs.Body.{lent, bodyBytes}
 use Rattle.mic.proofs.Steps.{unsigned, signs, over, wire-refused, wire-bytes, mic-is}
-use Rattle.composed.proofs.Laws.{capped-is, capped-over}
+use Rattle.composed_items.proofs.Laws.{capped-is, capped-over}
 use borrow.Author.Needs.{needs}
 use Rattle.mic.proofs.sign_body.Statement.{statement}
 use Rattle.mic.proofs.sign_body.Tie as tie

@@ -8,8 +8,8 @@ use lib.ListN.{drop}
 use denote.Ref.{now}
 use Rattle.base.specs.Lists.{joined}
 use Rattle.cipher.specs.inner.Words.{enciphered}
-use Rattle.composed.specs.Composed.{lists, itemsIn, itemWire, composedBytes}
-use Rattle.composed.proofs.Loops.{ahead, same-wire, none-left}
+use Rattle.composed_items.specs.Composed.{lists, itemsIn, itemWire, composedBytes}
+use Rattle.composed_items.proofs.Loops.{ahead, same-wire, none-left}
 use Rattle.mic.proofs.Absorbing.{Whole, whole-more, whole-none}
 use Rattle.mic.proofs.Bytes.{item-lt}
 use borrow.Author.Needs.{needs}

@@ -2,7 +2,7 @@
 use mathlib.Core.Path.{ap, sym, _∙_}
 use mathlib.Core.List.{foldl}
 use Rattle.wire.specs.declared.run.Run.{Run}
-use Rattle.composed.proofs.Runs.{path-wire, value-wire}
+use Rattle.composed_items.proofs.Runs.{path-wire, value-wire}
 use Rattle.mic.proofs.absorb.absorb_one.Statement.{statement}
 use Rattle.mic.proofs.absorb.absorb_one.Tie as tie
 

@@ -6,7 +6,7 @@ use lib.ListN.{length}
 use Rattle.wire.specs.Run.{runBytes}
 use Rattle.kept_items.specs.Kept.{openBytes}
 use Rattle.kept_items.proofs.Laws.{told}
-use Rattle.composed.specs.inner.Passes.{capped}
+use Rattle.composed_items.specs.inner.Passes.{capped}
 use Rattle.contents.specs.Body.{bodyBytes}
 use borrow.Author.Needs.{needs}
 use Rattle.contents.proofs.body.Body.size.Statement.{statement}
