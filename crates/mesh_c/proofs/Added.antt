@@ -15,7 +15,7 @@ use Rattle.numbers.specs.Numbers.{atMost}
 use Rattle.cache.specs.Cache.{rec}
 use Rattle.cache.specs.declared.ring.CacheAnswer.{CacheAnswer}
 use Rattle.cache.specs.declared.ring.CacheAnswer.the-variants.{Refused}
-use Rattle.packed.specs.inner.Packed.{addAnswer, addWords}
+use Rattle.cache_words.specs.inner.Packed.{addAnswer, addWords}
 use Rattle.mesh_c.specs.Face.{recordWide, answerBy, wordsBy, cacheAnswer, cacheWords}
 
 pub wide-last : (rs : List ℕ) → getD rs 1 0 ≤ 65535 → getD rs 2 0 ≤ timestampMost → recordWide rs ≡ ltb relayIdMost (getD rs 3 0)

@@ -44,7 +44,7 @@ use Rattle.cache.specs.Cache.{rec, recordOf}
 use Rattle.cache.specs.declared.record.PayloadCache.{PayloadCache}
 use Rattle.cache.specs.declared.ring.CacheAnswer.{CacheAnswer}
 use Rattle.cache.specs.declared.ring.CacheAnswer.the-variants.{Refused as NotAdded}
-use Rattle.packed.specs.inner.Packed.{addAnswer, addWords}
+use Rattle.cache_words.specs.inner.Packed.{addAnswer, addWords}
 
 -- the version of the declarations in include/mesh.h
 abbrev pub faceVersion : ℕ

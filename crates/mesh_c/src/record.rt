@@ -3,19 +3,19 @@ ghost use mathlib.Core.Path.{_≡_};
 ghost use Rattle.base.specs.Answers.{numberIn, leftBy, checkedNumber};
 ghost use Rattle.numbers.specs.Numbers.{bit};
 ghost use Rattle.cache.specs.Cache.{addSays};
-ghost use Rattle.packed.specs.inner.Packed.{clearAnswer, clearWords};
+ghost use Rattle.cache_words.specs.inner.Packed.{clearAnswer, clearWords};
 ghost use Rattle.mesh_c.specs.Face.{recordWide, cacheAnswer, cacheWords};
 use base::Checked;
 use base::Refusal;
 use cache::CacheAnswer;
 use cache::PayloadCache;
+use cache_words::Words;
 use fields::RelayId;
 use fields::Timestamp;
 use fields::TypeRead;
 use numbers::to_type;
 use numbers::to_u16;
 use numbers::to_u32;
-use packed::Words;
 
 // An empty cache of the last `size` records: 0, or 24 with the words as they were.
 #[no_mangle]
@@ -23,7 +23,7 @@ pub extern "C" fn mesh_cache_clear(words: &mut Words, size: u32) -> u8
     ensures answer { λ r. ⌜ r ≡ checkedNumber (clearAnswer size) ⌝ }
     ensures words { λ _. ⌜ now (words .exit) ≡ clearWords size (now (words .entry)) ⌝ }
 {
-    match packed::clear(words, size) {
+    match cache_words::clear(words, size) {
         Checked::Accepted => 0,
         Checked::Refused(n) => n,
     }
@@ -51,7 +51,7 @@ fn add_record(words: &mut Words, record: &[u64; 4]) -> CacheAnswer
     }
     match to_type(record[0]) {
         TypeRead::Refused(n) => CacheAnswer::Refused(n),
-        TypeRead::Kind(p_type) => packed::add(
+        TypeRead::Kind(p_type) => cache_words::add(
             words,
             PayloadCache {
                 p_type,

@@ -34,7 +34,7 @@ use Rattle.sealing.specs.declared.body.Opened.the-variants as opened
 use Rattle.heartbeats.specs.Heartbeat.{beatRefusal, beatOf, pathAfter, beatSays}
 use Rattle.cache.specs.Cache.{has, addSays, packOf}
 use Rattle.cache.specs.inner.Ring.{ringCount, addedOf}
-use Rattle.packed.specs.inner.Packed.{sizeIn, countIn, isBelow, clearAnswer, clearWords, addAnswer, addWords}
+use Rattle.cache_words.specs.inner.Packed.{sizeIn, countIn, isBelow, clearAnswer, clearWords, addAnswer, addWords}
 use Rattle.cache.specs.declared.record.PayloadCache.{PayloadCache}
 use Rattle.cache.specs.declared.ring.Cache.{Cache}
 use Rattle.hops.specs.Hops.{leaves}

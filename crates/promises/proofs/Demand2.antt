@@ -50,8 +50,8 @@ use Rattle.cache.specs.Cache.{sameRecord, answersLast, addSays}
 use Rattle.cache.specs.inner.Ring.{ringAnswers, newOf}
 use Rattle.cache.specs.declared.record.PayloadCache.{PayloadCache}
 use Rattle.cache.proofs.Laws.{same-is, adds-list, last-added}
-use Rattle.packed.specs.inner.Packed.{clearedWords, packedAnswers, SmallIds}
-use Rattle.packed.proofs.Laws.{packed-adds-list}
+use Rattle.cache_words.specs.inner.Packed.{clearedWords, packedAnswers, SmallIds}
+use Rattle.cache_words.proofs.Laws.{packed-adds-list}
 use Rattle.promises.specs.Said.{Accepts}
 use Rattle.promises.proofs.Said.{mesh-said, packet-said}
 use Rattle.promises.proofs.Refusals.{zero-accepts, accepts-zero, says-number, mesh-read, packet-read}

@@ -62,7 +62,7 @@ use Rattle.mic.specs.declared.Validated.the-variants.{Refused as NotValidated}
 use Rattle.hops.specs.Hops.{leaves}
 use Rattle.cache.specs.Cache.{addSays}
 use Rattle.cache.specs.declared.ring.CacheAnswer.the-variants.{Refused as NotAdded}
-use Rattle.packed.specs.inner.Packed.{clearAnswer, clearWords}
+use Rattle.cache_words.specs.inner.Packed.{clearAnswer, clearWords}
 use Rattle.numbers.specs.Numbers.{bodyRead, around, bareBy, tooWide, strangeBody, typedBy, kindBy, meshFrom, packetFrom, ifPacket, numbersFrame, runFrom}
 use Rattle.mesh_c.specs.Face.{headerByteBy, ifMesh, numbersBody, numbersSigned, numbersValid, numbersSealed, numbersSeal, numbersDecrypted, numbersWork, numbersDecoded, openedNumber, countsLeft, openedLeft, recordWide, recordFrom, answerBy, wordsBy, cacheAnswer, cacheWords}
 use Rattle.promises.specs.Said.{Accepts, Numbered}

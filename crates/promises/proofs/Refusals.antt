@@ -96,7 +96,7 @@ use Rattle.cache.specs.declared.record.PayloadCache.{PayloadCache}
 use Rattle.cache.specs.declared.ring.Cache.{Cache}
 use Rattle.cache.specs.declared.ring.CacheNew.{CacheNew}
 use Rattle.cache.specs.declared.ring.Added.{Added}
-use Rattle.packed.specs.inner.Packed.{sizeIn, countIn, isBelow, clearAnswer, addAnswer}
+use Rattle.cache_words.specs.inner.Packed.{sizeIn, countIn, isBelow, clearAnswer, addAnswer}
 use Rattle.promises.specs.Said.{Accepts, Numbered, reachSays}
 
 -- ---- what the number of an answer says

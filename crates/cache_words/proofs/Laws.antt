@@ -19,7 +19,7 @@ use Rattle.cache.specs.Cache.{packOf, sameRecord, has, answers}
 use Rattle.cache.specs.inner.Ring.{emptyRing, newOf, addedOf, pushedOf, ringAnswers}
 use Rattle.cache.proofs.Steps.{has-more}
 use Rattle.cache.proofs.Laws.{pack-same, adds-list}
-use Rattle.packed.specs.inner.Packed.{sizeIn, headAt, timeAt, relayAt, clearedWords, isAt, isBelow, storedAt, pushedWords, addAnswer, addWords, packedAnswers, noRecord, SmallId, SmallIds}
+use Rattle.cache_words.specs.inner.Packed.{sizeIn, headAt, timeAt, relayAt, clearedWords, isAt, isBelow, storedAt, pushedWords, addAnswer, addWords, packedAnswers, noRecord, SmallId, SmallIds}
 
 -- ---- one place
 

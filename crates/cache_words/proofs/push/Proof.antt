@@ -1,10 +1,10 @@
--- `packed::push` meets its contract. Assumes nothing.
+-- `cache_words::push` meets its contract. Assumes nothing.
 use Prim.Native.Nat.{_%_, _<_}
 use native.Mathlib.Omega.{arith}
 use borrow.Author.Needs.{needs}
-use Rattle.packed.proofs.Steps.{place-small, place-fits, pushed-is}
-use Rattle.packed.proofs.push.Statement.{statement}
-use Rattle.packed.proofs.push.Tie as tie
+use Rattle.cache_words.proofs.Steps.{place-small, place-fits, pushed-is}
+use Rattle.cache_words.proofs.push.Statement.{statement}
+use Rattle.cache_words.proofs.push.Tie as tie
 
 store-requires : tie.Need-store-requires
 store-requires c κs = place-small _ _ _ (c .before .before .before .pre) _

@@ -1,8 +1,8 @@
--- `packed::add` meets its contract. Assumes nothing.
+-- `cache_words::add` meets its contract. Assumes nothing.
 use borrow.Author.Needs.{needs}
-use Rattle.packed.proofs.Steps.{add-none, add-large, ready, add-seen, add-new}
-use Rattle.packed.proofs.add.Statement.{statement}
-use Rattle.packed.proofs.add.Tie as tie
+use Rattle.cache_words.proofs.Steps.{add-none, add-large, ready, add-seen, add-new}
+use Rattle.cache_words.proofs.add.Statement.{statement}
+use Rattle.cache_words.proofs.add.Tie as tie
 
 returns : tie.Need-returns
 returns c =

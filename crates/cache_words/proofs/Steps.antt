@@ -16,7 +16,7 @@ use Rattle.cache.specs.declared.record.PayloadCache.{PayloadCache}
 use Rattle.cache.specs.declared.ring.CacheAnswer.{CacheAnswer}
 use Rattle.cache.specs.declared.ring.CacheAnswer.the-variants.{New, Seen, Refused}
 use Rattle.cache.specs.Cache.{packOf}
-use Rattle.packed.specs.inner.Packed.{sizeIn, countIn, headAt, timeAt, relayAt, isAt, isBelow, storedAt, Ready, pushedWords, addAnswer, addWords}
+use Rattle.cache_words.specs.inner.Packed.{sizeIn, countIn, headAt, timeAt, relayAt, isAt, isBelow, storedAt, Ready, pushedWords, addAnswer, addWords}
 
 -- ---- the first places
 

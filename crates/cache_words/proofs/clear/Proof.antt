@@ -1,10 +1,10 @@
--- `packed::clear` meets its contract. Assumes nothing.
+-- `cache_words::clear` meets its contract. Assumes nothing.
 use mathlib.Core.Path.{refl}
 use borrow.Author.Needs.{needs}
 use borrow.Author.Tests.{lt-ltb, le-ltb}
-use Rattle.packed.specs.inner.Packed.{clearAnswer, clearWords, clearedWords}
-use Rattle.packed.proofs.clear.Statement.{statement}
-use Rattle.packed.proofs.clear.Tie as tie
+use Rattle.cache_words.specs.inner.Packed.{clearAnswer, clearWords, clearedWords}
+use Rattle.cache_words.proofs.clear.Statement.{statement}
+use Rattle.cache_words.proofs.clear.Tie as tie
 
 returns : tie.Need-returns
 unfolding clearAnswer clearWords

@@ -3,10 +3,10 @@ use mathlib.Core.Path.{sym, ap, _∙_}
 use mathlib.Core.List.{List}
 use Prim.Native.Nat.{ℕ}
 use Rattle.base.proofs.Outcome.{Fixed}
-use Rattle.packed.proofs.clear.Kinds as clear-kinds
-use Rattle.packed.proofs.clear.Reads as clear-reads
-use Rattle.packed.proofs.add.Kinds as add-kinds
-use Rattle.packed.proofs.add.Reads as add-reads
+use Rattle.cache_words.proofs.clear.Kinds as clear-kinds
+use Rattle.cache_words.proofs.clear.Reads as clear-reads
+use Rattle.cache_words.proofs.add.Kinds as add-kinds
+use Rattle.cache_words.proofs.add.Reads as add-reads
 
 clear : Fixed 1 clear-kinds.ps clear-kinds.r clear-reads.Post
 clear κs a x y v w p q = (p .0 ∙ sym (q .0), ap (λ (l : List ℕ). (l, (tt, tt))) (p .1 ∙ sym (q .1)))

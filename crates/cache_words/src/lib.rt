@@ -2,7 +2,7 @@
 ghost use mathlib.Core.Path.{_≡_};
 ghost use Prim.Native.Nat.{_<_, _≤_};
 ghost use mathlib.Core.List.{[], _∷_};
-ghost use Rattle.packed.specs.inner.Packed.{clearAnswer, clearWords, isBelow, storedAt, Ready, pushedWords, addAnswer, addWords};
+ghost use Rattle.cache_words.specs.inner.Packed.{clearAnswer, clearWords, isBelow, storedAt, Ready, pushedWords, addAnswer, addWords};
 use base::Checked;
 use base::Limit;
 use base::Refusal;

@@ -1,10 +1,10 @@
--- `packed::is_below` meets its contract. Assumes nothing.
+-- `cache_words::is_below` meets its contract. Assumes nothing.
 use mathlib.Core.List.{[], _∷_}
 use Prim.Native.Nat.{_-_}
 use borrow.Author.Needs.{needs}
-use Rattle.packed.proofs.Steps.{Looked, looked-none, looked-more, looked-all}
-use Rattle.packed.proofs.is_below.Statement.{statement}
-use Rattle.packed.proofs.is_below.Tie as tie
+use Rattle.cache_words.proofs.Steps.{Looked, looked-none, looked-more, looked-all}
+use Rattle.cache_words.proofs.is_below.Statement.{statement}
+use Rattle.cache_words.proofs.is_below.Tie as tie
 
 abbrev Inv-loop : tie.InvT-loop
 Inv-loop words head time relay n found₀ i₀ found i = Looked words (head ∷ time ∷ relay ∷ []) n found i
