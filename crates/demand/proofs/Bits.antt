@@ -19,8 +19,8 @@ use Rattle.fields.proofs.Laws.Header.{accepted, header-again}
 use Rattle.packets.specs.Read.{bodyIn, meshOf}
 use Rattle.packets.specs.declared.mesh.MeshPacket.{MeshPacket}
 use Rattle.packets.specs.declared.mesh.MeshRead.the-variants.{Mesh}
-use Rattle.trips.proofs.Again.{was-read}
-use Rattle.trips.proofs.Same.{kind-is}
+use Rattle.round_trips.proofs.Again.{was-read}
+use Rattle.round_trips.proofs.Same.{kind-is}
 use Rattle.hops.specs.Hops.{carryingCount}
 use Rattle.demand.specs.Demand.{bitOf, mayDiffer, Edit}
 use Rattle.demand.proofs.Edited.{clearedOf, least-of, found, newBody, body-long, newMic, newFrame}

@@ -56,10 +56,10 @@ use Rattle.packets.specs.declared.mesh.Payload.the-variants.{Uplink as AnUplink
 use Rattle.packets.specs.declared.mesh.PayloadRead.the-variants.{Payload as PayloadIs}
 use Rattle.packets.specs.declared.mesh.MeshPacket.{MeshPacket}
 use Rattle.packets.specs.declared.mesh.MeshRead.the-variants.{Mesh}
-use Rattle.trips.proofs.Which.{body-length}
-use Rattle.trips.proofs.Trip.{readAs, frame-read}
-use Rattle.trips.proofs.Again.{was-read}
-use Rattle.trips.proofs.Same.{body-bytes, run-is, clearedBody}
+use Rattle.round_trips.proofs.Which.{body-length}
+use Rattle.round_trips.proofs.Trip.{readAs, frame-read}
+use Rattle.round_trips.proofs.Again.{was-read}
+use Rattle.round_trips.proofs.Same.{body-bytes, run-is, clearedBody}
 use Rattle.mic.specs.Mic.{micOf, carryingMic, setMic, comparedBy, validateMic}
 use Rattle.mic.specs.declared.Validated.the-variants.{Valid}
 use Rattle.hops.specs.Hops.{alone, carryingCount, writtenOf, signedAnew, hopEdit}

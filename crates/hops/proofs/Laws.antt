@@ -26,12 +26,12 @@ use Rattle.packets.specs.Write.{payloadWire, behind, messageOf, meshFrame}
 use Rattle.packets.proofs.Laws.{message-alone}
 use Rattle.packets.specs.declared.mesh.MeshPacket.{MeshPacket}
 use Rattle.packets.specs.declared.mesh.MeshRead.the-variants.{Mesh, Refused}
-use Rattle.trips.proofs.Which.{body-length}
-use Rattle.trips.proofs.Again.{was-read}
-use Rattle.trips.proofs.Same.{body-bytes, clearedBody, body-again, cleared-length}
+use Rattle.round_trips.proofs.Which.{body-length}
+use Rattle.round_trips.proofs.Again.{was-read}
+use Rattle.round_trips.proofs.Same.{body-bytes, clearedBody, body-again, cleared-length}
 use Rattle.mic.specs.Mic.{micOf, fitting, signedOf, carryingMic, signedBy, setMic}
 use Rattle.hops.specs.Hops.{alone, carryingCount, writtenOf, signedAnew, hopEdit, leaves}
-use Rattle.trips.specs.Which.{lowSix}
+use Rattle.round_trips.specs.Which.{lowSix}
 use Rattle.hops.specs.inner.Steps.{isUplink, renewed, micLaid, rewritten}
 
 -- a message, and the MIC over it

@@ -42,10 +42,10 @@ use Rattle.packets.specs.declared.any.Packet.the-variants.{Lora}
 use Rattle.sealing.specs.Open.{decryptOf, openedBy, openedSays}
 use Rattle.sealing.specs.Seal.{eventSeal, commandSeal}
 use Rattle.sealing.proofs.Laws as sealed
-use Rattle.trips.specs.Which.{meshNumber, packetNumber, cleared}
-use Rattle.trips.proofs.Which.{which}
-use Rattle.trips.proofs.Same.{again}
-use Rattle.trips.proofs.Back.{uplink-back, downlink-back, event-back, command-back, lora-back, lora-again}
+use Rattle.round_trips.specs.Which.{meshNumber, packetNumber, cleared}
+use Rattle.round_trips.proofs.Which.{which}
+use Rattle.round_trips.proofs.Same.{again}
+use Rattle.round_trips.proofs.Back.{uplink-back, downlink-back, event-back, command-back, lora-back, lora-again}
 use Rattle.cache.specs.Cache.{sameRecord, answersLast, addSays}
 use Rattle.cache.specs.inner.Ring.{ringAnswers, newOf}
 use Rattle.cache.specs.declared.record.PayloadCache.{PayloadCache}

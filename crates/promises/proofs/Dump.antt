@@ -26,8 +26,8 @@ use Rattle.packets.specs.declared.any.Packet.{Packet}
 use Rattle.packets.specs.declared.any.Packet.the-variants.{Mesh}
 use Rattle.packets.specs.declared.any.PacketRead.{PacketRead}
 use Rattle.packets.specs.declared.any.PacketRead.the-variants.{Packet as PacketIs, Refused}
-use Rattle.trips.specs.Which.{leastFrame, meshNumber, packetNumber}
-use Rattle.trips.proofs.Which.{body-length}
+use Rattle.round_trips.specs.Which.{leastFrame, meshNumber, packetNumber}
+use Rattle.round_trips.proofs.Which.{body-length}
 use Rattle.dump.specs.Ascii.{ascii}
 use Rattle.dump.specs.Dump.{lastDigits, decimal, meshText, frameText, badHex, lineText, fromDigits}
 use Rattle.dump.proofs.Examples as examples

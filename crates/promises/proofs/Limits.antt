@@ -51,7 +51,7 @@ use Rattle.packets.specs.declared.mesh.Payload.{Payload}
 use Rattle.packets.specs.declared.mesh.Payload.the-variants.{Uplink, Downlink, Event, Command}
 use Rattle.packets.specs.declared.mesh.PayloadRead.the-variants.{Payload as PayloadIs}
 use Rattle.packets.specs.declared.mesh.MeshPacket.{MeshPacket}
-use Rattle.trips.proofs.Again.{was-read}
+use Rattle.round_trips.proofs.Again.{was-read}
 use Rattle.promises.specs.Limits.{Between, UplinkWithin, DownlinkWithin, StampWithin, PathWithin, PayloadWithin, PacketWithin, leastBytes, mostBytes, leastPacket, mostPacket, leastEntry, mostEntry}
 use Rattle.promises.proofs.Said.{uplink-said, downlink-said, event-said, command-said, mesh-said}
 

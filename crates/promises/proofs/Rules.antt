@@ -43,7 +43,7 @@ use Rattle.kept_items.specs.Kept.{openBytes}
 use Rattle.composed_items.specs.Composed.{composedWire, lentBack}
 use Rattle.composed_items.proofs.Again.{written-back}
 use Rattle.packets.specs.Read.{meshOf, meshSays}
-use Rattle.trips.specs.Which.{leastFrame, meshNumber}
+use Rattle.round_trips.specs.Which.{leastFrame, meshNumber}
 use Rattle.cache.specs.inner.Ring.{newOf}
 use Rattle.promises.specs.Said.{Accepts}
 use Rattle.promises.proofs.Said.{header-said, byte-said, signal-said, steps-said, item-said}

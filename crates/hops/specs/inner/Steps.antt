@@ -10,7 +10,7 @@ use Rattle.wire.specs.Number.{beBytes}
 use Rattle.wire.specs.Lay.{put}
 use Rattle.fields.specs.declared.header.PayloadType.{PayloadType}
 use Rattle.fields.specs.declared.header.PayloadType.the-variants.{Uplink, Downlink, Event, Command}
-use Rattle.trips.specs.Which.{lowSix}
+use Rattle.round_trips.specs.Which.{lowSix}
 use Rattle.mic.specs.Mic.{micOf}
 
 abbrev pub isUplink : PayloadType → Bool

@@ -18,7 +18,7 @@ use Rattle.fields.proofs.Laws.Header.{marked, not-marked}
 use Rattle.links.specs.Read.{uplinkAt, downlinkAt}
 use Rattle.events.specs.Read.{stampedAt, eventAt, commandAt}
 use Rattle.packets.specs.Read.{bodyIn, payloadAt, withPayload, withHeader, meshOf, meshSays}
-use Rattle.trips.specs.Which.{leastFrame, meshNumber}
+use Rattle.round_trips.specs.Which.{leastFrame, meshNumber}
 use Rattle.base.specs.Answers.{numberIn}
 
 pub body-length : (s : List ℕ) → 5 ≤ length s → length (bodyIn s) ≡ length s - 5

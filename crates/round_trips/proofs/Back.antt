@@ -42,8 +42,8 @@ use Rattle.packets.specs.declared.mesh.MeshRead.{MeshRead}
 use Rattle.packets.specs.declared.mesh.MeshRead.the-variants.{Mesh, Refused}
 use Rattle.packets.specs.declared.any.Packet.the-variants.{Lora}
 use Rattle.packets.specs.declared.any.PacketRead.the-variants.{Packet as PacketIs, Refused as NoPacket}
-use Rattle.trips.proofs.Trip.{Made, made, readAs, frame-read}
-use Rattle.trips.proofs.Same.{inside}
+use Rattle.round_trips.proofs.Trip.{Made, made, readAs, frame-read}
+use Rattle.round_trips.proofs.Same.{inside}
 
 -- the part behind x is v
 part-behind : (x v y : List ℕ) (n : ℕ) → length x ≡ n → partOf ((x ++ v) ++ y) n (length v) ≡ v

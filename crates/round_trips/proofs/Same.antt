@@ -48,14 +48,14 @@ use Rattle.links.proofs.Laws.{uplink-was, uplink-again, downlink-was, downlink-
 use Rattle.events.proofs.Laws.{event-was, event-again, command-was, command-again}
 use Rattle.packets.specs.Read.{bodyIn, ofUplink, ofDownlink, ofEvent, ofCommand, payloadAt, meshOf}
 use Rattle.packets.specs.Write.{payloadWire, meshFrame}
-use Rattle.trips.specs.Which.{cleared}
+use Rattle.round_trips.specs.Which.{cleared}
 use Rattle.packets.specs.declared.mesh.Payload.{Payload}
 use Rattle.packets.specs.declared.mesh.Payload.the-variants.{Uplink as AnUplink, Downlink as ADownlink, Event as AnEvent, Command as ACommand}
 use Rattle.packets.specs.declared.mesh.PayloadRead.the-variants.{Payload as PayloadIs}
 use Rattle.packets.specs.declared.mesh.MeshPacket.{MeshPacket}
 use Rattle.packets.specs.declared.mesh.MeshRead.the-variants.{Mesh}
-use Rattle.trips.proofs.Which.{body-length}
-use Rattle.trips.proofs.Again.{was-read, read-written}
+use Rattle.round_trips.proofs.Which.{body-length}
+use Rattle.round_trips.proofs.Again.{was-read, read-written}
 
 pub body-bytes : (s : List ℕ) → Bytes s → Bytes (bodyIn s)
 body-bytes s h = take-lt (length s - 4 - 1) (drop 1 s) (drop-lt 1 s h)
