@@ -173,7 +173,7 @@ static mesh_packet packet_of(const struct hand *h)
 {
     return (mesh_packet){.kind = h->kind, .payload_type = h->payload_type, .hop_count = h->hop_count, .has_mic = h->has_mic, .mic = h->mic,
                          .relay_id = h->relay_id, .uplink_id = h->uplink_id, .dr = h->dr, .channel = h->channel, .frequency = h->frequency,
-                         .tx_power = h->tx_power, .delay = h->delay, .timestamp = h->timestamp, .body = h->body, .start = h->start, .len = h->len,
+                         .tx_power = h->tx_power, .delay = h->delay, .timestamp = h->timestamp, .content = h->content, .start = h->start, .len = h->len,
                          .rssi = h->rssi, .snr = h->snr};
 }
 

@@ -36,7 +36,7 @@ uint8_t hand_read(struct hand *p, const uint8_t *frame, size_t n)
     default:
         if (n < 13) return 4;
         *p = (struct hand){.kind = type, .payload_type = type, .hop_count = hops, .has_mic = true, .mic = four(mic), .relay_id = four(frame + 5),
-                           .timestamp = four(frame + 1), .body = n > 13, .start = n > 13 ? 9 : 0, .len = n - 13};
+                           .timestamp = four(frame + 1), .content = n > 13, .start = n > 13 ? 9 : 0, .len = n - 13};
         return 0;
     }
 }

@@ -16,7 +16,7 @@ struct hand {
     uint32_t frequency;
     uint8_t tx_power, delay;
     uint32_t timestamp;
-    uint8_t body;
+    uint8_t content;
     uint64_t start, len;
 };
 

@@ -81,7 +81,7 @@ static void print_heartbeat(const uint8_t *value, size_t n) {
 
 /* The items of a packet that was opened into work. */
 static void print_items(const mesh_packet *p, const uint8_t *work) {
-    if (p->body != MESH_OPEN_IN_WORK) return;
+    if (p->content != MESH_OPEN_IN_WORK) return;
     mesh_items it = mesh_items_begin(p->kind == MESH_EVENT, work + p->start, p->len);
     while (mesh_items_next(&it)) {
         if (it.found == MESH_SKIPPED) {

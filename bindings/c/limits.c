@@ -84,9 +84,9 @@ static mesh_packet good(uint8_t kind) {
     return p;
 }
 
-static mesh_packet at(uint8_t kind, uint8_t body, uint64_t start, uint64_t len) {
+static mesh_packet at(uint8_t kind, uint8_t content, uint64_t start, uint64_t len) {
     mesh_packet p = good(kind);
-    p.body = body;
+    p.content = content;
     p.start = start;
     p.len = len;
     return p;
@@ -231,10 +231,10 @@ static void placed(uint8_t r, uint64_t *numbers, const mesh_packet *p) {
     mesh_packet after = *p;
     if (r == 0) {
         memcpy(&after, numbers, NUMBERS);
-        const uint64_t place[3] = {after.body, after.start, after.len};
+        const uint64_t place[3] = {after.content, after.start, after.len};
         memcpy(place_after, place, sizeof place);
         after = *p;
-        after.body = place[0];
+        after.content = place[0];
         after.start = place[1];
         after.len = place[2];
     }
@@ -681,7 +681,7 @@ static void widths(void) {
     CHECK((p.frequency = 1ull << 32, do_write(false, &p, &NONE, 99)) == 17 && (p.delay = 257, do_write(false, &p, &NONE, 99)) == 16);
     CHECK((p.tx_power = 256, do_write(false, &p, &NONE, 99)) == 15 && (p.payload_type = 256, do_write(false, &p, &NONE, 99)) == 29);
     p = good(MESH_EVENT);
-    CHECK((p.body = 256, do_write(false, &p, &NONE, 99)) == 29 && (p.body = 0, p.kind = 256, do_write(false, &p, &NONE, 99)) == 29);
+    CHECK((p.content = 256, do_write(false, &p, &NONE, 99)) == 29 && (p.content = 0, p.kind = 256, do_write(false, &p, &NONE, 99)) == 29);
     p = good(MESH_UPLINK);
     CHECK((p.has_mic = 2, do_write(false, &p, &NONE, 99)) == 0 && written_length == 14 && (p.has_mic = 0, do_write(false, &p, &NONE, 99)) == 27);
 }
@@ -810,7 +810,7 @@ static void sealing(void) {
             const uint64_t *far = i < COUNT(FAR) ? FAR[i] : near[i - COUNT(FAR)];
             p = at(kind, MESH_SEALED, far[0], far[1]);
             CHECK(do_seal(&p, &l, 0) == 45 && do_decrypt(&p, b, 8200, NULL, 0) == 45 && do_decode(&p, b, 8200, b, 8200) == 45);
-            for (p.body = MESH_OPEN_IN_FRAME; p.body <= MESH_OPEN_IN_WORK; p.body++)
+            for (p.content = MESH_OPEN_IN_FRAME; p.content <= MESH_OPEN_IN_WORK; p.content++)
                 CHECK(do_seal(&p, &l, 0) == 45 && do_write(false, &p, &l, 0) == 45 && do_sign(&p, &l) == 45);
             p.payload_type = 4;
             CHECK(do_seal(&p, &l, 0) == 29 && do_decrypt(&p, b, 8200, NULL, 0) == 29 && do_decode(&p, b, 8200, b, 8200) == 29);
@@ -841,7 +841,7 @@ static void sealing(void) {
         const uint8_t number = n < 2 ? 0 : n < 4 ? 23 : 22;
         p = at(MESH_EVENT, MESH_OPEN_IN_FRAME, 0, n);
         CHECK(do_decrypt(&p, items, n, NULL, 9) == number && do_decode(&p, items, n, NULL, 0) == (number ? 255 : 0));
-        p.body = MESH_OPEN_IN_WORK;
+        p.content = MESH_OPEN_IN_WORK;
         CHECK(do_decrypt(&p, NULL, 0, items, n) == number && do_decode(&p, NULL, 0, items, n) == (number ? 255 : 0));
         p = at(MESH_COMMAND, MESH_ITEMS, 0, n / 2);
         CHECK(do_decrypt(&p, NULL, 0, NULL, 0) == number && do_decode(&p, NULL, 0, NULL, 0) == (number ? 255 : 0));
@@ -1182,15 +1182,15 @@ static const size_t LENGTHS[] = {1, 13, 4000, SIZE_MAX};
 /* The number of every call that is lent these slices, of any packet. */
 static void lacking(const mesh_lent *l, uint8_t *out, size_t out_len) {
     for (uint8_t kind = MESH_UPLINK; kind <= MESH_LORA; kind++)
-        for (uint8_t body = MESH_EMPTY; body <= MESH_ITEMS; body++) {
-            mesh_packet p = at(kind, body, 0, 1);
+        for (uint8_t content = MESH_EMPTY; content <= MESH_ITEMS; content++) {
+            mesh_packet p = at(kind, content, 0, 1);
             const mesh_packet before = p;
             uint64_t length = 77;
             bool valid = true;
             CHECK(mesh_packet_write(&p, l, out, out_len, &length) == 45 && mesh_packet_write_body(&p, l, out, out_len, &length) == 45);
             CHECK(mesh_packet_seal(&p, KEY, l, out, out_len) == 45 && length == 77);
             if (out) CHECK(mesh_packet_sign(&p, KEY, l) == 45 && mesh_packet_validate(&p, KEY, l, &valid) == 45 && valid);
-            CHECK(p.kind == before.kind && p.mic == before.mic && p.body == before.body && p.start == before.start && p.len == before.len);
+            CHECK(p.kind == before.kind && p.mic == before.mic && p.content == before.content && p.start == before.start && p.len == before.len);
         }
 }
 
@@ -1238,11 +1238,11 @@ static void nulls(void) {
         lacking(&whole, NULL, n);
 
         for (uint8_t kind = MESH_UPLINK; kind <= MESH_LORA; kind++)
-            for (uint8_t body = MESH_EMPTY; body <= MESH_ITEMS; body++) {
-                p = at(kind, body, 0, 1);
+            for (uint8_t content = MESH_EMPTY; content <= MESH_ITEMS; content++) {
+                p = at(kind, content, 0, 1);
                 CHECK(mesh_packet_decrypt(&p, KEY, NULL, n, out, 99, &c) == 45 && mesh_packet_decrypt(&p, KEY, value, 3, NULL, n, &c) == 45);
                 CHECK(mesh_packet_decode(&p, NULL, n, out, 99, &c) == 45 && mesh_packet_decode(&p, value, 3, NULL, n, &c) == 45);
-                CHECK(p.body == body && p.len == 1 && untouched(&c, sizeof c));
+                CHECK(p.content == content && p.len == 1 && untouched(&c, sizeof c));
             }
 
         mesh_items it = mesh_items_begin(true, NULL, n);
@@ -1262,7 +1262,7 @@ static void nulls(void) {
     CHECK(mesh_packet_write(&p, &NONE, out, 13, &length) == 0 && length == 13);
     CHECK(mesh_packet_validate(&p, KEY, &NONE, &valid) == 0 && !valid && mesh_packet_sign(&p, KEY, &NONE) == 0);
     CHECK(mesh_packet_validate(&p, KEY, &NONE, &valid) == 0 && valid);
-    CHECK(mesh_packet_seal(&p, KEY, &NONE, NULL, 0) == 0 && p.body == MESH_EMPTY);
+    CHECK(mesh_packet_seal(&p, KEY, &NONE, NULL, 0) == 0 && p.content == MESH_EMPTY);
     CHECK(mesh_packet_decrypt(&p, KEY, NULL, 0, NULL, 0, &c) == 0 && c.clean && mesh_packet_decode(&p, NULL, 0, NULL, 0, &c) == 0 && c.kept == 0);
     p = at(MESH_LORA, 0, 0, 0);
     CHECK(mesh_packet_write(&p, &NONE, NULL, 0, &length) == 0 && length == 0);

@@ -350,16 +350,16 @@ static void item(bool is_event, slice s) {
 static void body(mesh_packet *p) {
     slice w = word();
     if (is(w, "empty")) {
-        p->body = MESH_EMPTY;
+        p->content = MESH_EMPTY;
     } else if (begins(&w, "sealed:")) {
         span run = unhex(&frame, w);
-        p->body = MESH_SEALED;
+        p->content = MESH_SEALED;
         p->start = run.start;
         p->len = run.len;
     } else if (begins(&w, "open:")) {
         bool again = w.n > 0;
         while (again && !fault) item(p->kind == MESH_EVENT, cut(&w, ',', &again));
-        p->body = MESH_ITEMS;
+        p->content = MESH_ITEMS;
         p->len = kinds.n;
     } else {
         bad("empty, sealed: or open:");
@@ -505,11 +505,11 @@ static uint8_t put_payload(const mesh_packet *p, const uint8_t *in, const uint8_
     default:
         put_number(p->timestamp), put(" ");
         put_four(p->relay_id), put(" ");
-        if (p->body == MESH_SEALED) {
+        if (p->content == MESH_SEALED) {
             put("sealed:");
             put_digits(in + p->start, (size_t)p->len);
-        } else if (p->body == MESH_OPEN_IN_FRAME || p->body == MESH_OPEN_IN_WORK) {
-            r = put_kept(p->kind == MESH_EVENT, (p->body == MESH_OPEN_IN_FRAME ? in : opened) + p->start, (size_t)p->len);
+        } else if (p->content == MESH_OPEN_IN_FRAME || p->content == MESH_OPEN_IN_WORK) {
+            r = put_kept(p->kind == MESH_EVENT, (p->content == MESH_OPEN_IN_FRAME ? in : opened) + p->start, (size_t)p->len);
         } else {
             put("empty");
         }
@@ -550,7 +550,7 @@ static void put_opened(bool was_sealed, const mesh_counts *c) {
 }
 
 /* whether opening it is an opening: a run of no bytes counts as empty */
-static bool sealed(const mesh_packet *p) { return p->body == MESH_SEALED && p->len > 0; }
+static bool sealed(const mesh_packet *p) { return p->content == MESH_SEALED && p->len > 0; }
 
 static void put_yes(bool yes) { put(yes ? "yes" : "no"); }
 

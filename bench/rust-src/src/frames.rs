@@ -135,7 +135,7 @@ pub fn events(length: usize) -> Vec<Told> {
                 hop_count: hop_count.into(),
                 relay_id: relay_id.into(),
                 timestamp: timestamp.into(),
-                body: 4,
+                content: 4,
                 start: 0,
                 len: kinds.len() as u64,
                 ..port::Packet::default()

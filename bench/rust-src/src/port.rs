@@ -23,7 +23,7 @@ pub struct Packet {
     pub tx_power: u64,
     pub delay: u64,
     pub timestamp: u64,
-    pub body: u64,
+    pub content: u64,
     pub start: u64,
     pub len: u64,
     pub rssi: i16,
@@ -115,15 +115,15 @@ pub fn set_hop_count(key: &[u8; 16], frame: &mut [u8], hop_count: u8) {
 pub fn seal(p: &Packet, key: &[u8; 16], l: &Lent, out: &mut [u8]) -> [u64; 3] {
     let mut p = p.clone();
     held(of_lent!(mesh_seal, (p.numbers_mut(), key), l, out.as_mut_ptr(), out.len()));
-    [p.body, p.start, p.len]
+    [p.content, p.start, p.len]
 }
 
-/// The counts of items and bytes, and body, start and len of the clear payload in `work`; on a copy.
+/// The counts of items and bytes, and content, start and len of the clear payload in `work`; on a copy.
 pub fn decrypt(p: &Packet, key: &[u8; 16], frame: &[u8], work: &mut [u8]) -> ([u64; MESH_COUNTS_NUMBERS], [u64; 3]) {
     let (mut p, mut counts) = (p.clone(), [0; MESH_COUNTS_NUMBERS]);
     let (from, n) = (frame.as_ptr(), frame.len());
     held(unsafe { sys::mesh_decrypt(p.numbers_mut(), key, from, n, work.as_mut_ptr(), work.len(), &mut counts) });
-    (counts, [p.body, p.start, p.len])
+    (counts, [p.content, p.start, p.len])
 }
 
 /// What stands at a place of an event's clear payload: found, kind, tag, place and length of the value, and the place behind it.

@@ -42,7 +42,7 @@ pub use dump::{dump_frame, dump_frame_text, dump_line, dump_line_text};
 pub use fields::{decode_freq, encode_freq, DownlinkMetadata, Header, PayloadType, RelayId, RelayPath, UplinkMetadata};
 pub use items::{heartbeat_to_vec, write_heartbeat, Command, Event, Found, Heartbeat, Item, Items, Kept, Opening};
 pub use keys::{cmac, encrypt_block, encrypt_events_commands, encrypt_events_commands_into, Cipher, Cmac, Key, Keys};
-pub use packets::{set_hop_count, Body, CommandPayload, DownlinkPayload, EventPayload, MeshPacket, Packet, Payload, UplinkPayload};
+pub use packets::{set_hop_count, CommandPayload, Content, DownlinkPayload, EventPayload, MeshPacket, Packet, Payload, UplinkPayload};
 pub use receive::{receive, ReceiveError, Received};
 pub use refusal::Refusal;
 

@@ -99,7 +99,7 @@ pub struct EventPayload<'a> {
     /// The relay that tells it.
     pub relay_id: RelayId,
     /// Its items.
-    pub events: Body<'a, Item>,
+    pub events: Content<'a, Item>,
 }
 
 /// The body of a command.
@@ -110,12 +110,12 @@ pub struct CommandPayload<'a> {
     /// The relay that is told.
     pub relay_id: RelayId,
     /// Its items.
-    pub commands: Body<'a, Command>,
+    pub commands: Content<'a, Command>,
 }
 
 /// The items of an event or a command. A sealed or an open run of no bytes, or no items, count as empty.
 #[derive(Clone, Debug, PartialEq, Eq)]
-pub enum Body<'a, I> {
+pub enum Content<'a, I> {
     /// None.
     Empty,
     /// Sealed bytes, of the frame that was read or of the slice that they were sealed into.
@@ -133,36 +133,36 @@ fn allocated(write: impl FnOnce(&mut [u8]) -> Result<usize, Refusal>) -> Result<
     Ok(out)
 }
 
-impl<'a, I> Body<'a, I> {
+impl<'a, I> Content<'a, I> {
     fn of(f: &Flat, frame: &'a [u8]) -> Result<Self, Refusal> {
-        Ok(match f.body {
-            MESH_EMPTY => Body::Empty,
-            MESH_SEALED => Body::Sealed(part(frame, f.start, f.len)?),
-            _ => Body::Open(part(frame, f.start, f.len)?),
+        Ok(match f.content {
+            MESH_EMPTY => Content::Empty,
+            MESH_SEALED => Content::Sealed(part(frame, f.start, f.len)?),
+            _ => Content::Open(part(frame, f.start, f.len)?),
         })
     }
 
     /// The bytes that it lies in.
     fn held(&self) -> &'a [u8] {
         match self {
-            Body::Sealed(b) | Body::Open(b) => b,
-            Body::Empty | Body::Items(_) => &[],
+            Content::Sealed(b) | Content::Open(b) => b,
+            Content::Empty | Content::Items(_) => &[],
         }
     }
 
     fn place(&self) -> Place {
-        let (body, len) = match self {
-            Body::Empty => (MESH_EMPTY, 0),
-            Body::Sealed(b) => (MESH_SEALED, b.len()),
-            Body::Open(b) => (MESH_OPEN_IN_FRAME, b.len()),
-            Body::Items(items) => (MESH_ITEMS, items.len()),
+        let (content, len) = match self {
+            Content::Empty => (MESH_EMPTY, 0),
+            Content::Sealed(b) => (MESH_SEALED, b.len()),
+            Content::Open(b) => (MESH_OPEN_IN_FRAME, b.len()),
+            Content::Items(items) => (MESH_ITEMS, items.len()),
         };
-        Place { body, start: 0, len: len as u64 }
+        Place { content, start: 0, len: len as u64 }
     }
 
     fn opened(&self) -> &'a [u8] {
         match self {
-            Body::Open(b) => b,
+            Content::Open(b) => b,
             _ => &[],
         }
     }
@@ -172,7 +172,7 @@ impl<'a, I> Body<'a, I> {
         I: Composed,
     {
         let mut lists = Lists::default();
-        if let Body::Items(items) = self {
+        if let Content::Items(items) = self {
             for item in items {
                 item.lay(&mut lists);
             }
@@ -204,10 +204,10 @@ impl<'a, I> Body<'a, I> {
 
     /// Sealed or opened into other bytes. What keeps no item is empty from then on.
     fn moved(&mut self, to: Place, into: &'a [u8]) -> Result<(), Refusal> {
-        *self = match to.body {
-            MESH_EMPTY => Body::Empty,
-            MESH_SEALED => Body::Sealed(part(into, to.start, to.len)?),
-            MESH_OPEN_IN_FRAME | MESH_OPEN_IN_WORK => Body::Open(part(into, to.start, to.len)?),
+        *self = match to.content {
+            MESH_EMPTY => Content::Empty,
+            MESH_SEALED => Content::Sealed(part(into, to.start, to.len)?),
+            MESH_OPEN_IN_FRAME | MESH_OPEN_IN_WORK => Content::Open(part(into, to.start, to.len)?),
             // No call moves composed items; they stay.
             _ => return Ok(()),
         };
@@ -303,7 +303,7 @@ fn stamped(kind: PayloadType, timestamp: u32, relay_id: RelayId, at: Place) -> F
         payload_type: kind.to_byte(),
         relay_id: relay_id.number(),
         timestamp,
-        body: at.body,
+        content: at.content,
         start: at.start,
         len: at.len,
         ..Flat::default()
@@ -312,7 +312,7 @@ fn stamped(kind: PayloadType, timestamp: u32, relay_id: RelayId, at: Place) -> F
 
 impl<'a> EventPayload<'a> {
     fn of(f: &Flat, frame: &'a [u8]) -> Result<Self, Refusal> {
-        Ok(EventPayload { timestamp: f.timestamp, relay_id: f.relay_id.into(), events: Body::of(f, frame)? })
+        Ok(EventPayload { timestamp: f.timestamp, relay_id: f.relay_id.into(), events: Content::of(f, frame)? })
     }
 
     fn flat(&self) -> Flat {
@@ -358,7 +358,7 @@ impl<'a> EventPayload<'a> {
 
 impl<'a> CommandPayload<'a> {
     fn of(f: &Flat, frame: &'a [u8]) -> Result<Self, Refusal> {
-        Ok(CommandPayload { timestamp: f.timestamp, relay_id: f.relay_id.into(), commands: Body::of(f, frame)? })
+        Ok(CommandPayload { timestamp: f.timestamp, relay_id: f.relay_id.into(), commands: Content::of(f, frame)? })
     }
 
     fn flat(&self) -> Flat {

@@ -26,7 +26,7 @@ pub(crate) struct Flat {
     pub tx_power: u8,
     pub delay: u8,
     pub timestamp: u32,
-    pub body: u8,
+    pub content: u8,
     pub start: u64,
     pub len: u64,
     pub rssi: i16,
@@ -50,7 +50,7 @@ impl Flat {
             tx_power: n[10] as u8,
             delay: n[11] as u8,
             timestamp: n[12] as u32,
-            body: n[13] as u8,
+            content: n[13] as u8,
             start: n[14],
             len: n[15],
             rssi,
@@ -73,7 +73,7 @@ impl Flat {
             self.tx_power.into(),
             self.delay.into(),
             self.timestamp.into(),
-            self.body.into(),
+            self.content.into(),
             self.start,
             self.len,
         ]
@@ -152,7 +152,7 @@ pub(crate) struct Lent<'a> {
 /// Where a payload lies after sealing or opening.
 #[derive(Clone, Copy)]
 pub(crate) struct Place {
-    pub body: u8,
+    pub content: u8,
     pub start: u64,
     pub len: u64,
 }
@@ -167,8 +167,8 @@ fn answer(number: u8) -> Result<(), Refusal> {
 
 /// The place that a call left in the numbers of a packet.
 fn place(numbers: [u64; MESH_PACKET_NUMBERS]) -> Place {
-    let Flat { body, start, len, .. } = Flat::of(numbers, 0, 0);
-    Place { body, start, len }
+    let Flat { content, start, len, .. } = Flat::of(numbers, 0, 0);
+    Place { content, start, len }
 }
 
 macro_rules! with_lent {

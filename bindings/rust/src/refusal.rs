@@ -64,7 +64,7 @@ pub enum Refusal {
     MicMissing = 27,
     /// A frequency has 3 bytes.
     FrequencyLength = 28,
-    /// The code of a type, of a body or of an item's kind is none, or a number is wider than its field.
+    /// The code of a type, of a content or of an item's kind is none, or a number is wider than its field.
     TypeLarge = 29,
     /// The line has an odd count of digits, or a byte that is no hex digit.
     LineDigits = 30,
@@ -140,7 +140,7 @@ impl Refusal {
             Refusal::KeyDigit => "the text of the key has a byte that is no hex digit",
             Refusal::MicMissing => "the packet has no MIC",
             Refusal::FrequencyLength => "a frequency has 3 bytes",
-            Refusal::TypeLarge => "the code of a type, of a body or of an item's kind is none, or a number is wider than its field",
+            Refusal::TypeLarge => "the code of a type, of a content or of an item's kind is none, or a number is wider than its field",
             Refusal::LineDigits => "the line has an odd count of digits, or a byte that is no hex digit",
             Refusal::Outside => "a place and a length run outside their buffer",
         }

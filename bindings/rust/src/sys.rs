@@ -26,7 +26,7 @@ pub(crate) const MESH_EVENT: u8 = 2;
 pub(crate) const MESH_COMMAND: u8 = 3;
 pub(crate) const MESH_LORA: u8 = 4;
 
-// enum mesh_body
+// enum mesh_content
 pub(crate) const MESH_EMPTY: u8 = 0;
 pub(crate) const MESH_SEALED: u8 = 1;
 pub(crate) const MESH_OPEN_IN_FRAME: u8 = 2;

@@ -30,7 +30,7 @@ fn downlink(phy_payload: &[u8]) -> MeshPacket<'_> {
     }
 }
 
-fn event(events: Body<'_, Item>) -> MeshPacket<'_> {
+fn event(events: Content<'_, Item>) -> MeshPacket<'_> {
     MeshPacket {
         mhdr: Header { payload_type: PayloadType::Event, hop_count: 1 },
         payload: Payload::Event(EventPayload { timestamp: 60, relay_id: RelayId([10, 11, 12, 13]), events }),
@@ -38,7 +38,7 @@ fn event(events: Body<'_, Item>) -> MeshPacket<'_> {
     }
 }
 
-fn command(commands: Body<'_, Command>) -> MeshPacket<'_> {
+fn command(commands: Content<'_, Command>) -> MeshPacket<'_> {
     MeshPacket {
         mhdr: Header { payload_type: PayloadType::Command, hop_count: 1 },
         payload: Payload::Command(CommandPayload { timestamp: 60, relay_id: RelayId([10, 11, 12, 13]), commands }),
@@ -64,7 +64,7 @@ fn refused(packet: &MeshPacket, number: u8) {
 
 #[test]
 fn hops() {
-    for packet in [uplink(&[]), downlink(&[]), event(Body::Empty), command(Body::Empty)] {
+    for packet in [uplink(&[]), downlink(&[]), event(Content::Empty), command(Content::Empty)] {
         for (hop_count, number) in [(0, 6), (9, 7), (255, 7)] {
             refused(&MeshPacket { mhdr: Header { hop_count, ..packet.mhdr }, ..packet.clone() }, number);
         }
@@ -154,7 +154,7 @@ fn frames_at_the_most() {
         };
         assert_eq!(read, Err(Refusal::FrameLong));
     }
-    for make in [|b| event(Body::Sealed(b)), |b| command(Body::Sealed(b)), |b| event(Body::Open(b)), |b| command(Body::Open(b))]
+    for make in [|b| event(Content::Sealed(b)), |b| command(Content::Sealed(b)), |b| event(Content::Open(b)), |b| command(Content::Open(b))]
         as [fn(&[u8]) -> MeshPacket<'_>; 4]
     {
         // Open runs are written as the items they keep: here all but the last byte.
@@ -174,8 +174,8 @@ fn frames_at_the_most() {
     assert_eq!(DownlinkPayload::from_slice(&long[..9]), Err(Refusal::BodyShort));
     assert_eq!(EventPayload::from_slice(&long[..7]), Err(Refusal::BodyShort));
     assert_eq!(CommandPayload::from_slice(&long[..7]), Err(Refusal::BodyShort));
-    assert_eq!(EventPayload::from_slice(&long[..8]).unwrap().events, Body::Empty);
-    assert_eq!(CommandPayload::from_slice(&long[..8]).unwrap().commands, Body::Empty);
+    assert_eq!(EventPayload::from_slice(&long[..8]).unwrap().events, Content::Empty);
+    assert_eq!(CommandPayload::from_slice(&long[..8]).unwrap().commands, Content::Empty);
     for (first, least) in [(0xe0, 14), (0xe8, 15), (0xf0, 13), (0xf8, 13)] {
         let mut b = vec![0; least];
         b[0] = first;
@@ -187,11 +187,11 @@ fn frames_at_the_most() {
 #[test]
 fn composed_items() {
     let entry = RelayPath { relay_id: RelayId([1, 2, 3, 4]), rssi: -1, snr: -1 };
-    let items = |list: Vec<Item>| event(Body::Items(list));
+    let items = |list: Vec<Item>| event(Content::Items(list));
     refused(&items(vec![Item::Heartbeat(vec![entry; 43])]), 19);
     refused(&items(vec![Item::Proprietary(1, vec![0; 256])]), 19);
     refused(&items(vec![Item::Proprietary(1, vec![0; 70_000])]), 19);
-    refused(&command(Body::Items(vec![Command::Proprietary(0, vec![0; 256])])), 19);
+    refused(&command(Content::Items(vec![Command::Proprietary(0, vec![0; 256])])), 19);
     refused(&items(vec![Item::Proprietary(0, vec![0; 5])]), 20);
     for (number, rssi, snr) in [(10, 1, 0), (11, -256, 0), (12, 0, -33), (13, 0, 32)] {
         let bad = RelayPath { rssi, snr, ..entry };
@@ -237,7 +237,7 @@ fn composed_items() {
     let Payload::Event(e) = &read.payload else { unreachable!() };
     let found: Vec<Item> = e.items().unwrap().map(|f| if let Found::Kept(k) = f { k.to_item() } else { panic!() }).collect();
     let Payload::Event(b) = &beat.payload else { unreachable!() };
-    assert_eq!(Body::Items(found), b.events);
+    assert_eq!(Content::Items(found), b.events);
     assert_eq!(small, [BEFORE; 512]);
     assert_eq!(other, [BEFORE; 600]);
     assert_eq!(work[513], BEFORE);
@@ -251,17 +251,17 @@ fn given_back() {
     let kept = |items: Items| items.filter_map(|f| if let Found::Kept(k) = f { Some(k.to_item()) } else { None }).collect::<Vec<_>>();
     let again = kept(Items::of_event(&payload).unwrap());
     assert_eq!(again.len(), 4);
-    let open = event(Body::Open(&payload)).to_vec().unwrap();
+    let open = event(Content::Open(&payload)).to_vec().unwrap();
     assert_eq!(open[9..open.len() - 4], hex("0006 01020304 5007 0102aabb 0000 ff0107"));
-    assert_eq!(event(Body::Items(again)).to_vec().unwrap(), open);
+    assert_eq!(event(Content::Items(again)).to_vec().unwrap(), open);
 
     let again: Result<Vec<Command>, Refusal> =
         Items::of_command(&payload).unwrap().filter_map(|f| if let Found::Kept(k) = f { Some(k.to_command()) } else { None }).collect();
     let again = again.unwrap();
     assert_eq!(again.len(), 5);
-    let open = command(Body::Open(&payload)).to_vec().unwrap();
+    let open = command(Content::Open(&payload)).to_vec().unwrap();
     assert_eq!(open[9..open.len() - 4], payload[..payload.len() - 3]);
-    assert_eq!(command(Body::Items(again)).to_vec().unwrap(), open);
+    assert_eq!(command(Content::Items(again)).to_vec().unwrap(), open);
 
     // A command has no heartbeats.
     let Some(Found::Kept(beat)) = Items::of_event(&payload).unwrap().next() else { unreachable!() };
@@ -271,13 +271,13 @@ fn given_back() {
 #[test]
 fn open_already() {
     let mut work = [BEFORE; 100];
-    let mut one = event(Body::Open(&[1, 0]));
+    let mut one = event(Content::Open(&[1, 0]));
     assert_eq!(one.clone().decrypt(&root(), &mut work), Err(Refusal::OpenOne));
     assert_eq!(work, [BEFORE; 100]);
-    let mut two = command(Body::Open(&[1, 0, 2, 0, 3]));
+    let mut two = command(Content::Open(&[1, 0, 2, 0, 3]));
     let mut work = [BEFORE; 100];
     assert_eq!(two.decrypt(&root(), &mut work), Err(Refusal::OpenMany));
-    let mut items = command(Body::Items(vec![Command::Proprietary(1, vec![])]));
+    let mut items = command(Content::Items(vec![Command::Proprietary(1, vec![])]));
     let mut work = [BEFORE; 100];
     assert_eq!(items.decrypt(&root(), &mut work), Err(Refusal::OpenOne));
     for packet in [&mut one, &mut two, &mut items] {
@@ -285,13 +285,13 @@ fn open_already() {
     }
     // What keeps nothing counts as empty, and stands for nothing from then on.
     let clean = Opening { clean: true, ..Opening::default() };
-    for mut packet in [event(Body::Open(&[1])), event(Body::Items(vec![])), event(Body::Sealed(&[])), event(Body::Empty)] {
+    for mut packet in [event(Content::Open(&[1])), event(Content::Items(vec![])), event(Content::Sealed(&[])), event(Content::Empty)] {
         let mut sealed = packet.clone();
         assert_eq!(sealed.encrypt(&root(), &mut []), Ok(()));
-        assert_eq!(sealed, event(Body::Empty));
+        assert_eq!(sealed, event(Content::Empty));
         assert_eq!(packet.decode(), Ok(Some(clean)));
         assert_eq!(packet.decrypt(&root(), &mut []), Ok(clean));
-        assert_eq!(packet, event(Body::Empty));
+        assert_eq!(packet, event(Content::Empty));
     }
     for packet in [uplink(&[1]), downlink(&[1])] {
         let mut same = packet.clone();
@@ -302,15 +302,15 @@ fn open_already() {
     }
     // Sealing what is sealed opens it, and it is still marked sealed.
     let (mut first, mut second) = ([0; 3], [0; 3]);
-    let mut packet = event(Body::Sealed(&[1, 1, 5]));
+    let mut packet = event(Content::Sealed(&[1, 1, 5]));
     packet.encrypt(&root(), &mut first).unwrap();
     packet.encrypt(&root(), &mut second).unwrap();
-    assert_eq!(packet, event(Body::Sealed(&[1, 1, 5])));
+    assert_eq!(packet, event(Content::Sealed(&[1, 1, 5])));
     let long = [1; 8180];
     let mut work = [0; 9000];
-    assert_eq!(event(Body::Sealed(&long)).decrypt(&root(), &mut work), Err(Refusal::FrameLong));
-    assert_eq!(event(Body::Sealed(&long)).decode(), Err(Refusal::FrameLong));
-    assert_eq!(event(Body::Open(&long)).decode(), Ok(None));
+    assert_eq!(event(Content::Sealed(&long)).decrypt(&root(), &mut work), Err(Refusal::FrameLong));
+    assert_eq!(event(Content::Sealed(&long)).decode(), Err(Refusal::FrameLong));
+    assert_eq!(event(Content::Open(&long)).decode(), Ok(None));
 }
 
 #[test]
@@ -474,8 +474,8 @@ fn caches() {
         assert_eq!(cache.add(&other), Ok(false));
     }
     assert_eq!(uplink(&[]).record().unwrap().uplink_id, 291);
-    assert_eq!(event(Body::Empty).record().unwrap().timestamp, 60);
-    assert_eq!(command(Body::Empty).record().unwrap().uplink_id, 0);
+    assert_eq!(event(Content::Empty).record().unwrap().timestamp, 60);
+    assert_eq!(command(Content::Empty).record().unwrap().uplink_id, 0);
 }
 
 #[test]
@@ -525,5 +525,5 @@ fn ids() {
     assert_eq!(format!("{id:?}"), "0a000c0d");
     assert_eq!(RelayId::from(0x0a00_0c0d), id);
     assert_eq!(RelayId::from([0x0a, 0, 0xc, 0x0d]), id);
-    assert_eq!(event(Body::Empty).payload.relay_id(), RelayId([10, 11, 12, 13]));
+    assert_eq!(event(Content::Empty).payload.relay_id(), RelayId([10, 11, 12, 13]));
 }

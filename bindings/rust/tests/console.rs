@@ -43,7 +43,7 @@ fn frames() {
         payload: Payload::Event(EventPayload {
             timestamp: 1_700_000_000,
             relay_id: RelayId([0x0a, 0x0b, 0x0c, 0x0e]),
-            events: Body::Items(vec![Item::Heartbeat(path), Item::Proprietary(130, vec![0xca, 0xfe, 0x01])]),
+            events: Content::Items(vec![Item::Heartbeat(path), Item::Proprietary(130, vec![0xca, 0xfe, 0x01])]),
         }),
         mic: None,
     });
@@ -52,7 +52,7 @@ fn frames() {
         payload: Payload::Command(CommandPayload {
             timestamp: 1_700_000_060,
             relay_id: RelayId([0x0a, 0x0b, 0x0c, 0x0d]),
-            commands: Body::Items(vec![Command::Proprietary(0, vec![0x05])]),
+            commands: Content::Items(vec![Command::Proprietary(0, vec![0x05])]),
         }),
         mic: None,
     });

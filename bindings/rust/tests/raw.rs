@@ -39,7 +39,7 @@ struct P {
     tx_power: u64,
     delay: u64,
     timestamp: u64,
-    body: u64,
+    content: u64,
     start: u64,
     len: u64,
     rssi: i16,
@@ -63,7 +63,7 @@ fn numbers(p: &P) -> Numbers {
         p.tx_power,
         p.delay,
         p.timestamp,
-        p.body,
+        p.content,
         p.start,
         p.len,
     ]
@@ -71,7 +71,7 @@ fn numbers(p: &P) -> Numbers {
 
 fn of(n: Numbers, rssi: i16, snr: i8) -> P {
     let [kind, payload_type, hop_count, has_mic, mic, relay_id, uplink_id, dr, rest @ ..] = n;
-    let [channel, frequency, tx_power, delay, timestamp, body, start, len] = rest;
+    let [channel, frequency, tx_power, delay, timestamp, content, start, len] = rest;
     P {
         kind,
         payload_type,
@@ -86,7 +86,7 @@ fn of(n: Numbers, rssi: i16, snr: i8) -> P {
         tx_power,
         delay,
         timestamp,
-        body,
+        content,
         start,
         len,
         rssi,
@@ -112,7 +112,7 @@ const fn good(kind: u64) -> P {
         tx_power: 3,
         delay: 1,
         timestamp: 60,
-        body: 0,
+        content: 0,
         start: 0,
         len: 0,
     }
@@ -229,11 +229,11 @@ fn set_hop_count(key: &[u8; 16], frame: &mut [u8], hop_count: u8) -> u8 {
     number
 }
 
-/// Body, start and len; they alone change.
+/// Content, start and len; they alone change.
 fn place(number: u8, n: Numbers, p: &P) -> [u64; 3] {
-    let P { body, start, len, .. } = of(n, 0, 0);
-    assert_eq!(n, numbers(&if number == 0 { P { body, start, len, ..*p } } else { *p }));
-    [body, start, len]
+    let P { content, start, len, .. } = of(n, 0, 0);
+    assert_eq!(n, numbers(&if number == 0 { P { content, start, len, ..*p } } else { *p }));
+    [content, start, len]
 }
 
 fn seal(p: &P, key: &[u8; 16], l: &L, room: usize) -> Result<([u64; 3], Vec<u8>), u8> {
@@ -348,9 +348,9 @@ fn reading() {
             let (number, n, rssi, snr) = read_mesh(&b);
             assert_eq!((number, n, rssi, snr), read(&b));
             assert_eq!((number, n[0], n[1], n[2], n[3]), (0, kind, kind, 8, 1));
-            let body = if kind < 2 || len == least { 0 } else { SEALED };
+            let content = if kind < 2 || len == least { 0 } else { SEALED };
             let at = if kind >= 2 && len == least { 0 } else { start };
-            assert_eq!(n[13..], [body, at, (len - least) as u64]);
+            assert_eq!(n[13..], [content, at, (len - least) as u64]);
         }
     }
 }
@@ -380,8 +380,8 @@ fn reading_bodies() {
 fn faults(p: P) -> Vec<(u8, P)> {
     let mut list = vec![];
     for (start, len) in FAR.into_iter().chain([(0, 4), (4, 1), (3, 1), (2, 2)]) {
-        let body = if p.kind < 2 { 0 } else { SEALED };
-        list.push((45, P { start, len, body, uplink_id: 4096, delay: 0, ..p }));
+        let content = if p.kind < 2 { 0 } else { SEALED };
+        list.push((45, P { start, len, content, uplink_id: 4096, delay: 0, ..p }));
     }
     if p.kind < 2 {
         list.push((8, P { uplink_id: 4096, dr: 16, rssi: 1, delay: 0, ..p }));
@@ -449,7 +449,7 @@ fn writing_refuses_in_order() {
             assert_eq!(write_body(&p, &l, 0), Err(number));
         }
         for start in [3, 4, u64::MAX] {
-            let p = P { start, body: SEALED, ..p };
+            let p = P { start, content: SEALED, ..p };
             assert_eq!(write(&p, &l, 100), write(&good(kind), &L::default(), 100));
         }
         for hop_count in 1..=8 {
@@ -469,7 +469,7 @@ fn writing_at_the_most() {
     let long = frame(9, 8200);
     let l = framed(&long);
     for (kind, rest) in [(UPLINK, 14), (DOWNLINK, 15), (EVENT, 13), (COMMAND, 13)] {
-        let p = P { body: SEALED, start: 1, len: 8192 - rest, ..good(kind) };
+        let p = P { content: SEALED, start: 1, len: 8192 - rest, ..good(kind) };
         let over = P { len: p.len + 1, ..p };
         assert_eq!(write(&over, &l, 0), Err(5));
         assert_eq!(write(&P { has_mic: 0, ..over }, &l, 0), Err(27));
@@ -501,22 +501,22 @@ fn writing_over_shared_ranges() {
     let (f, w) = (&one[4..30], &one[10..]);
     let key: &[u8; 16] = one[8..24].try_into().unwrap();
     let l = L { frame: f, work: w, ..L::default() };
-    let p = P { body: SEALED, start: 2, len: 5, ..good(EVENT) };
+    let p = P { content: SEALED, start: 2, len: 5, ..good(EVENT) };
     assert_eq!(&write(&p, &l, 18).unwrap()[9..14], &one[6..11]);
     // 0c 0d ..: a cut item.
-    let p = P { body: IN_WORK, start: 2, len: 5, ..good(EVENT) };
+    let p = P { content: IN_WORK, start: 2, len: 5, ..good(EVENT) };
     assert_eq!(write(&p, &l, 18).unwrap().len(), 13);
     let kinds = [[PROPRIETARY, 1], [PROPRIETARY, 2]];
     let spans = [[0, 3], [1, 3]];
     let both = L { kinds: &kinds, spans: &spans, ..l };
-    let p = P { body: ITEMS, len: 2, ..p };
+    let p = P { content: ITEMS, len: 2, ..p };
     assert_eq!(write(&p, &both, 23).unwrap()[9..19], [1, 3, 10, 11, 12, 2, 3, 11, 12, 13]);
     let apart = key.to_owned();
     assert_eq!(sign(&p, key, &both), sign(&p, &apart, &both));
     let (place, out) = seal(&p, key, &both, 10).unwrap();
     assert_eq!(place, [1, 0, 10]);
     assert_eq!(seal(&p, &apart, &both, 10).unwrap().1, out);
-    assert_eq!(decode(&P { body: SEALED, start: 2, len: 5, ..p }, f, f), decode(&P { body: SEALED, start: 2, len: 5, ..p }, f, w));
+    assert_eq!(decode(&P { content: SEALED, start: 2, len: 5, ..p }, f, f), decode(&P { content: SEALED, start: 2, len: 5, ..p }, f, w));
 }
 
 #[test]
@@ -527,7 +527,7 @@ fn composing() {
     let snrs = [2; 50];
     let at = |kinds: &[[u8; 2]], spans: &[[u32; 2]], len: u64, kind: u64| {
         let l = L { frame: &[], work: &value, kinds, spans, ids: &ids, rssis: &rssis, snrs: &snrs };
-        let p = P { body: ITEMS, len, ..good(kind) };
+        let p = P { content: ITEMS, len, ..good(kind) };
         let w = write(&p, &l, 8192);
         assert_eq!(write_body(&p, &l, 8192), w.clone().map(|b| b[1..b.len() - 4].to_vec()));
         assert_eq!(seal(&p, &KEY, &l, 8192).map(|(place, _)| place[2]), w.clone().map(|b| b.len() as u64 - 13));
@@ -572,7 +572,7 @@ fn composing() {
     assert_eq!(at(&[[PROPRIETARY, 0], any], &[[0, 5], [0, 256]], 2, EVENT), Err(19));
 
     // A path's lists of unequal length reach as far as the shortest; its entries are judged before lengths.
-    let p = P { body: ITEMS, len: 1, ..good(EVENT) };
+    let p = P { content: ITEMS, len: 1, ..good(EVENT) };
     for (ids, rssis, snrs) in [(&ids[..1], &rssis[..], &snrs[..]), (&ids, &rssis[..1], &snrs), (&ids, &rssis, &snrs[..1])] {
         let l = L { kinds: &[[PATH, 0]], spans: &[[0, 2]], ids, rssis, snrs, ..L::default() };
         assert_eq!(write(&p, &l, 99), Err(45));
@@ -603,7 +603,7 @@ fn kinds_that_are_none() {
         let l = L { work: &value, kinds, spans, ..L::default() };
         for hop_count in [0, 1, 9] {
             for has_mic in [0, 1] {
-                let p = P { body: ITEMS, len: kinds.len() as u64, hop_count, has_mic, ..good(kind) };
+                let p = P { content: ITEMS, len: kinds.len() as u64, hop_count, has_mic, ..good(kind) };
                 assert_eq!(write(&p, &l, 0), Err(29));
                 assert_eq!(write_body(&p, &l, 0), Err(29));
                 assert_eq!(sign(&p, &KEY, &l), Err(29));
@@ -626,13 +626,13 @@ fn kinds_that_are_none() {
     }
     // An item is what both lists have: of one that they lack, 45.
     let l = L { work: &value, kinds: &[any, [0, 1]], spans: &[[0, 1]], ..L::default() };
-    assert_eq!(write(&P { body: ITEMS, len: 2, ..good(EVENT) }, &l, 99), Err(45));
+    assert_eq!(write(&P { content: ITEMS, len: 2, ..good(EVENT) }, &l, 99), Err(45));
     let l = L { work: &value, kinds: &[any, [0, 1]], spans: &[[0, 1]; 2], ..L::default() };
-    assert_eq!(write(&P { body: ITEMS, len: 3, ..good(EVENT) }, &l, 99), Err(29));
+    assert_eq!(write(&P { content: ITEMS, len: 3, ..good(EVENT) }, &l, 99), Err(29));
     // Items that the body does not count are not looked at.
     let l = L { work: &value, kinds: &[any, [0, 0]], spans: &[[0, 1], [0, 1]], ..L::default() };
     for kind in [EVENT, COMMAND] {
-        assert_eq!(write(&P { body: ITEMS, len: 1, ..good(kind) }, &l, 99).unwrap()[9..12], [1, 1, 1]);
+        assert_eq!(write(&P { content: ITEMS, len: 1, ..good(kind) }, &l, 99).unwrap()[9..12], [1, 1, 1]);
         assert_eq!(write(&P { len: 1, ..good(kind) }, &l, 99).unwrap().len(), 13);
     }
 }
@@ -661,7 +661,7 @@ fn numbers_that_are_wide() {
         (4_294_967_295, |p, n| p.frequency = n),
         (255, |p, n| p.tx_power = n),
         (255, |p, n| p.delay = n),
-        (255, |p, n| p.body = n),
+        (255, |p, n| p.content = n),
     ];
     let none: [(u64, Set); 4] = [
         (4_294_967_296, |p, n| p.mic = n),
@@ -671,7 +671,7 @@ fn numbers_that_are_wide() {
     ];
     for kind in [UPLINK, DOWNLINK, EVENT, COMMAND, LORA] {
         for (hop_count, has_mic) in [(0, 0), (1, 1), (9, 1)] {
-            let p = P { hop_count, has_mic, body: SEALED, len: 3, ..good(kind) };
+            let p = P { hop_count, has_mic, content: SEALED, len: 3, ..good(kind) };
             for (most, set) in largest {
                 let mut q = p;
                 set(&mut q, most);
@@ -709,24 +709,24 @@ fn numbers_that_are_wide() {
         (17, P { frequency: 1 << 32, ..down }),
         (29, P { kind: 256, ..up }),
         (29, P { payload_type: 256, ..up }),
-        (29, P { body: 256, ..event }),
+        (29, P { content: 256, ..event }),
         (29, P { relay_id: 1 << 32, dr: 300, ..up }),
     ] {
         assert_eq!(write(&p, &l, 99), Err(number));
     }
 }
 
-/// So it is with a body that is none; of uplinks, downlinks and LoRa frames it is not looked at.
+/// So it is with a content that is none; of uplinks, downlinks and LoRa frames it is not looked at.
 #[test]
 fn bodies_that_are_none() {
     let three = [1, 2, 3];
     let l = framed(&three);
-    for body in [5, 6, 127, 255] {
+    for content in [5, 6, 127, 255] {
         for kind in [EVENT, COMMAND] {
             for (start, len) in [(0, 0), (0, 3), (9, 9)] {
                 for hop_count in [0, 1, 9] {
                     for has_mic in [0, 1] {
-                        let p = P { body, start, len, hop_count, has_mic, ..good(kind) };
+                        let p = P { content, start, len, hop_count, has_mic, ..good(kind) };
                         assert_eq!(write(&p, &l, 0), Err(29));
                         assert_eq!(write_body(&p, &l, 0), Err(29));
                         assert_eq!(sign(&p, &KEY, &l), Err(29));
@@ -740,13 +740,13 @@ fn bodies_that_are_none() {
         }
         for kind in [UPLINK, DOWNLINK, LORA] {
             let p = P { len: 3, ..good(kind) };
-            assert_eq!(write(&P { body, ..p }, &l, 99), write(&p, &l, 99));
+            assert_eq!(write(&P { content, ..p }, &l, 99), write(&p, &l, 99));
             assert!(write(&p, &l, 99).is_ok());
         }
         for kind in [UPLINK, DOWNLINK] {
             let p = P { len: 3, ..good(kind) };
-            assert_eq!(sign(&P { body, ..p }, &KEY, &l), sign(&p, &KEY, &l));
-            assert!(seal(&P { body, ..p }, &KEY, &l, 0).is_ok());
+            assert_eq!(sign(&P { content, ..p }, &KEY, &l), sign(&p, &KEY, &l));
+            assert!(seal(&P { content, ..p }, &KEY, &l, 0).is_ok());
         }
     }
 }
@@ -773,8 +773,8 @@ fn lent_back() {
         }
         assert_eq!(kinds.len(), if kind == EVENT { 4 } else { 5 });
         let l = L { work: &payload, kinds: &kinds, spans: &spans, ..L::default() };
-        let again = P { body: ITEMS, len: kinds.len() as u64, ..good(kind) };
-        let open = P { body: IN_WORK, len: payload.len() as u64, ..good(kind) };
+        let again = P { content: ITEMS, len: kinds.len() as u64, ..good(kind) };
+        let open = P { content: IN_WORK, len: payload.len() as u64, ..good(kind) };
         let written = write(&open, &l, 99).unwrap();
         assert_eq!(written[16], if kind == EVENT { 0x07 } else { 0xc7 });
         assert_eq!(write(&again, &l, 99).unwrap(), written);
@@ -819,7 +819,7 @@ fn sealing_and_opening() {
     let long = frame(9, 8200);
     let l = framed(&long);
     for kind in [EVENT, COMMAND] {
-        let p = P { body: SEALED, start: 1, len: 8179, ..good(kind) };
+        let p = P { content: SEALED, start: 1, len: 8179, ..good(kind) };
         for payload_type in [4, 255] {
             assert_eq!(seal(&P { payload_type, ..p }, &KEY, &l, 0), Err(29));
             assert_eq!(decrypt(&P { payload_type, ..p }, &KEY, &long, 0), Err(29));
@@ -830,8 +830,8 @@ fn sealing_and_opening() {
             assert_eq!(seal(&p, &KEY, &l, 0), Err(45));
             assert_eq!(decrypt(&p, &KEY, &long, 0), Err(45));
             assert_eq!(decode(&p, &long, &[]), Err(45));
-            for body in [IN_FRAME, IN_WORK] {
-                let p = P { body, ..p };
+            for content in [IN_FRAME, IN_WORK] {
+                let p = P { content, ..p };
                 assert_eq!(seal(&p, &KEY, &L { work: &long, ..l }, 0), Err(45));
                 assert_eq!(write(&p, &L { work: &long, ..l }, 0), Err(45));
             }
@@ -845,7 +845,7 @@ fn sealing_and_opening() {
         // Sealing twice gives the clear bytes; hop count and MIC do not matter.
         let (place, out) = seal(&P { hop_count: 0, has_mic: 0, ..p }, &KEY, &l, 8179).unwrap();
         assert_eq!(place, [1, 0, 8179]);
-        let q = P { body: place[0], start: place[1], len: place[2], ..p };
+        let q = P { content: place[0], start: place[1], len: place[2], ..p };
         let (_, back) = seal(&q, &KEY, &framed(&out), 8190).unwrap();
         assert_eq!(back[..8179], long[1..8180]);
         assert_eq!(back[8179..], [BEFORE; 11]);
@@ -860,17 +860,17 @@ fn sealing_and_opening() {
     }
     // Open already: with none, one and more items.
     for (payload, number) in [(&[1, 0, 2, 0][..], 22), (&[1, 0][..], 23), (&[1, 0, 9][..], 23)] {
-        for (body, frame, work) in [(IN_FRAME, payload, &[][..]), (IN_WORK, &[][..], payload)] {
-            let p = P { body, len: payload.len() as u64, ..good(EVENT) };
+        for (content, frame, work) in [(IN_FRAME, payload, &[][..]), (IN_WORK, &[][..], payload)] {
+            let p = P { content, len: payload.len() as u64, ..good(EVENT) };
             assert_eq!(decode(&p, frame, work), Err(255));
             assert_eq!(decrypt_in(&p, &KEY, frame, work.to_vec()), Err(number));
             assert_eq!(seal(&p, &KEY, &L { frame, work, ..L::default() }, 4).unwrap().0[0], 1);
         }
     }
-    assert_eq!(decrypt(&P { body: ITEMS, len: 2, ..good(COMMAND) }, &KEY, &[], 0), Err(22));
-    assert_eq!(decrypt(&P { body: ITEMS, len: u64::MAX, ..good(COMMAND) }, &KEY, &[], 0), Err(22));
-    assert_eq!(decrypt(&P { body: ITEMS, len: 1, ..good(COMMAND) }, &KEY, &[], 0), Err(23));
-    assert_eq!(decode(&P { body: ITEMS, len: 1, ..good(COMMAND) }, &[], &[]), Err(255));
+    assert_eq!(decrypt(&P { content: ITEMS, len: 2, ..good(COMMAND) }, &KEY, &[], 0), Err(22));
+    assert_eq!(decrypt(&P { content: ITEMS, len: u64::MAX, ..good(COMMAND) }, &KEY, &[], 0), Err(22));
+    assert_eq!(decrypt(&P { content: ITEMS, len: 1, ..good(COMMAND) }, &KEY, &[], 0), Err(23));
+    assert_eq!(decode(&P { content: ITEMS, len: 1, ..good(COMMAND) }, &[], &[]), Err(255));
     // Nothing to do, in no room at all: an empty payload and what has no items.
     for p in [good(UPLINK), good(DOWNLINK), good(EVENT), good(COMMAND)] {
         let (place, out) = seal(&p, &KEY, &L::default(), 0).unwrap();
@@ -1252,7 +1252,7 @@ fn records() {
         assert_eq!(record(&P { hop_count: 0, has_mic: 0, ..good(kind) }), (0, [kind, 291, 0, 0x0a0b_0c0d]));
     }
     for kind in [EVENT, COMMAND] {
-        let p = P { start: u64::MAX, len: u64::MAX, body: SEALED, ..good(kind) };
+        let p = P { start: u64::MAX, len: u64::MAX, content: SEALED, ..good(kind) };
         assert_eq!(record(&p), (0, [kind, 0, 60, 0x0a0b_0c0d]));
     }
 }

@@ -26,7 +26,7 @@ fn uplink(uplink_id: u16, relay_id: [u8; 4]) -> Vec<u8> {
 fn event(timestamp: u32, items: Vec<Item>) -> Vec<u8> {
     let mut packet = MeshPacket {
         mhdr: Header { payload_type: PayloadType::Event, hop_count: 1 },
-        payload: Payload::Event(EventPayload { timestamp, relay_id: RelayId([1, 2, 3, 4]), events: Body::Items(items) }),
+        payload: Payload::Event(EventPayload { timestamp, relay_id: RelayId([1, 2, 3, 4]), events: Content::Items(items) }),
         mic: None,
     };
     let mut out = [0; PAYLOAD_MOST];

@@ -58,12 +58,12 @@ fn payload<'a>(g: &mut Lcg, bytes: &'a [u8]) -> Payload<'a> {
         2 => Payload::Event(EventPayload {
             timestamp: g.next() * 2 + 1,
             relay_id,
-            events: Body::Items((0..g.to(8)).map(|_| item(g)).collect()),
+            events: Content::Items((0..g.to(8)).map(|_| item(g)).collect()),
         }),
         _ => Payload::Command(CommandPayload {
             timestamp: g.next() * 2 + 1,
             relay_id,
-            commands: Body::Items((0..g.to(8)).map(|_| command(g)).collect()),
+            commands: Content::Items((0..g.to(8)).map(|_| command(g)).collect()),
         }),
     }
 }
@@ -108,14 +108,14 @@ fn packets() {
         // Read, it is the packet that was sent: a payload of no items is read as empty.
         let mut read = MeshPacket::from_slice(&frame).expect("read");
         let none = |p: &Payload| match p {
-            Payload::Event(p) => matches!(&p.events, Body::Items(i) if i.is_empty()),
-            Payload::Command(p) => matches!(&p.commands, Body::Items(i) if i.is_empty()),
+            Payload::Event(p) => matches!(&p.events, Content::Items(i) if i.is_empty()),
+            Payload::Command(p) => matches!(&p.commands, Content::Items(i) if i.is_empty()),
             _ => false,
         };
         if none(&sent.payload) {
             match &mut sent.payload {
-                Payload::Event(p) => p.events = Body::Empty,
-                Payload::Command(p) => p.commands = Body::Empty,
+                Payload::Event(p) => p.events = Content::Empty,
+                Payload::Command(p) => p.commands = Content::Empty,
                 _ => {}
             }
         }
@@ -146,12 +146,12 @@ fn packets() {
         match (&read.payload, &clear.payload) {
             (Payload::Event(p), Payload::Event(q)) => {
                 let found: Vec<Item> = p.items().expect("items").map(|f| kept(f).to_item()).collect();
-                assert_eq!(Body::Items(found), q.events);
+                assert_eq!(Content::Items(found), q.events);
                 assert_eq!(p.to_vec(), q.to_vec());
             }
             (Payload::Command(p), Payload::Command(q)) => {
                 let found = p.items().expect("items").map(|f| kept(f).to_command().expect("a command has no heartbeats"));
-                assert_eq!(Body::Items(found.collect()), q.commands);
+                assert_eq!(Content::Items(found.collect()), q.commands);
                 assert_eq!(p.to_vec(), q.to_vec());
             }
             (p, q) => assert_eq!(p, q),
@@ -201,8 +201,8 @@ fn any_bytes() {
                 }
                 // And the frequency of a downlink from 1.2 GHz on is read as double, which is written as it was.
                 assert_eq!(p.to_vec(), Ok(expected));
-                let was_empty = matches!(&p.payload, Payload::Event(e) if e.events == Body::Empty)
-                    || matches!(&p.payload, Payload::Command(c) if c.commands == Body::Empty)
+                let was_empty = matches!(&p.payload, Payload::Event(e) if e.events == Content::Empty)
+                    || matches!(&p.payload, Payload::Command(c) if c.commands == Content::Empty)
                     || matches!(p.payload, Payload::Uplink(_) | Payload::Downlink(_));
                 let opening = p.decode().expect("decoded").expect("was not open");
                 if was_empty {
@@ -233,11 +233,11 @@ fn any_bytes() {
                     let is_kept = |f: &Found| matches!(f, Found::Kept(_));
                     match &mut p.payload {
                         Payload::Event(e) => {
-                            e.events = Body::Items(e.items().expect("items").filter(is_kept).map(|f| kept(f).to_item()).collect());
+                            e.events = Content::Items(e.items().expect("items").filter(is_kept).map(|f| kept(f).to_item()).collect());
                         }
                         Payload::Command(c) => {
                             let again = c.items().expect("items").filter(is_kept).map(|f| kept(f).to_command());
-                            c.commands = Body::Items(again.collect::<Result<_, _>>().expect("no heartbeats"));
+                            c.commands = Content::Items(again.collect::<Result<_, _>>().expect("no heartbeats"));
                         }
                         _ => unreachable!(),
                     }

@@ -4,43 +4,43 @@ use mathlib.Core.List.{List}
 use Prim.Native.Nat.{ℕ}
 use denote.Ref.{now}
 use Rattle.base.proofs.Outcome.{Fixed, FixedPart}
-use Rattle.contents.proofs.body.held_in.Kinds as held-in-kinds
-use Rattle.contents.proofs.body.held_in.Reads as held-in-reads
-use Rattle.contents.proofs.body.Body.of.Kinds as body-of-kinds
-use Rattle.contents.proofs.body.Body.of.Reads as body-of-reads
-use Rattle.contents.proofs.body.Body.payload.Kinds as body-payload-kinds
-use Rattle.contents.proofs.body.Body.payload.Reads as body-payload-reads
-use Rattle.contents.proofs.body.Body.value.Kinds as body-value-kinds
-use Rattle.contents.proofs.body.Body.value.Reads as body-value-reads
-use Rattle.contents.proofs.body.Body.kinds_refusal.Kinds as body-kinds-refusal-kinds
-use Rattle.contents.proofs.body.Body.kinds_refusal.Reads as body-kinds-refusal-reads
-use Rattle.contents.proofs.body.Body.refusal.Kinds as body-refusal-kinds
-use Rattle.contents.proofs.body.Body.refusal.Reads as body-refusal-reads
-use Rattle.contents.proofs.body.Body.size.Kinds as body-size-kinds
-use Rattle.contents.proofs.body.Body.size.Reads as body-size-reads
-use Rattle.contents.proofs.body.Body.put.Kinds as body-put-kinds
-use Rattle.contents.proofs.body.Body.put.Reads as body-put-reads
+use Rattle.contents.proofs.content.held_in.Kinds as held-in-kinds
+use Rattle.contents.proofs.content.held_in.Reads as held-in-reads
+use Rattle.contents.proofs.content.Content.of.Kinds as content-of-kinds
+use Rattle.contents.proofs.content.Content.of.Reads as content-of-reads
+use Rattle.contents.proofs.content.Content.payload.Kinds as content-payload-kinds
+use Rattle.contents.proofs.content.Content.payload.Reads as content-payload-reads
+use Rattle.contents.proofs.content.Content.value.Kinds as content-value-kinds
+use Rattle.contents.proofs.content.Content.value.Reads as content-value-reads
+use Rattle.contents.proofs.content.Content.kinds_refusal.Kinds as content-kinds-refusal-kinds
+use Rattle.contents.proofs.content.Content.kinds_refusal.Reads as content-kinds-refusal-reads
+use Rattle.contents.proofs.content.Content.refusal.Kinds as content-refusal-kinds
+use Rattle.contents.proofs.content.Content.refusal.Reads as content-refusal-reads
+use Rattle.contents.proofs.content.Content.size.Kinds as content-size-kinds
+use Rattle.contents.proofs.content.Content.size.Reads as content-size-reads
+use Rattle.contents.proofs.content.Content.put.Kinds as content-put-kinds
+use Rattle.contents.proofs.content.Content.put.Reads as content-put-reads
 
 held-in : FixedPart 1 held-in-kinds.ps held-in-kinds.r held-in-reads.Post (λ κs x. now x)
 held-in κs a x y v w p q = (p ∙ sym q, refl)
 
-body-of : Fixed 0 body-of-kinds.ps body-of-kinds.r body-of-reads.Post
-body-of κs a x y v w p q = (p ∙ sym q, refl)
+content-of : Fixed 0 content-of-kinds.ps content-of-kinds.r content-of-reads.Post
+content-of κs a x y v w p q = (p ∙ sym q, refl)
 
-body-payload : FixedPart 1 body-payload-kinds.ps body-payload-kinds.r body-payload-reads.Post (λ κs x. now x)
-body-payload κs a x y v w p q = (p ∙ sym q, refl)
+content-payload : FixedPart 1 content-payload-kinds.ps content-payload-kinds.r content-payload-reads.Post (λ κs x. now x)
+content-payload κs a x y v w p q = (p ∙ sym q, refl)
 
-body-value : FixedPart 2 body-value-kinds.ps body-value-kinds.r body-value-reads.Post (λ κs x. now x)
-body-value κs a x y v w p q = (p .0 ∙ sym (q .0), ap (λ (l : ℕ). (tt, (tt, (tt, (tt, (l, tt)))))) (p .1 ∙ sym (q .1)))
+content-value : FixedPart 2 content-value-kinds.ps content-value-kinds.r content-value-reads.Post (λ κs x. now x)
+content-value κs a x y v w p q = (p .0 ∙ sym (q .0), ap (λ (l : ℕ). (tt, (tt, (tt, (tt, (l, tt)))))) (p .1 ∙ sym (q .1)))
 
-body-kinds-refusal : Fixed 2 body-kinds-refusal-kinds.ps body-kinds-refusal-kinds.r body-kinds-refusal-reads.Post
-body-kinds-refusal κs a x y v w p q = (p ∙ sym q, refl)
+content-kinds-refusal : Fixed 2 content-kinds-refusal-kinds.ps content-kinds-refusal-kinds.r content-kinds-refusal-reads.Post
+content-kinds-refusal κs a x y v w p q = (p ∙ sym q, refl)
 
-body-refusal : Fixed 6 body-refusal-kinds.ps body-refusal-kinds.r body-refusal-reads.Post
-body-refusal κs a x y v w p q = (p ∙ sym q, refl)
+content-refusal : Fixed 6 content-refusal-kinds.ps content-refusal-kinds.r content-refusal-reads.Post
+content-refusal κs a x y v w p q = (p ∙ sym q, refl)
 
-body-size : Fixed 6 body-size-kinds.ps body-size-kinds.r body-size-reads.Post
-body-size κs a x y v w p q = (p ∙ sym q, refl)
+content-size : Fixed 6 content-size-kinds.ps content-size-kinds.r content-size-reads.Post
+content-size κs a x y v w p q = (p ∙ sym q, refl)
 
-body-put : Fixed 7 body-put-kinds.ps body-put-kinds.r body-put-reads.Post
-body-put κs a x y v w p q = (refl, ap (λ (l : List ℕ). (tt, (tt, (tt, (tt, (tt, (tt, (tt, (tt, (tt, (l, (tt, tt)))))))))))) (p ∙ sym q))
+content-put : Fixed 7 content-put-kinds.ps content-put-kinds.r content-put-reads.Post
+content-put κs a x y v w p q = (refl, ap (λ (l : List ℕ). (tt, (tt, (tt, (tt, (tt, (tt, (tt, (tt, (tt, (l, (tt, tt)))))))))))) (p ∙ sym q))

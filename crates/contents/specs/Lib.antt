@@ -1,1 +1,1 @@
-pub mod Body
+pub mod Content

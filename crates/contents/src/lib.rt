@@ -1,7 +1,7 @@
 // What follows the relay id of an event or a command: nothing, one sealed run, or open items.
-mod body;
+mod content;
 mod write;
 
-pub use body::Body;
-pub use body::Held;
-pub use body::held_in;
+pub use content::Content;
+pub use content::Held;
+pub use content::held_in;

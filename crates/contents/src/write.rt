@@ -1,11 +1,11 @@
-// A body's payload as it is written: its first refusal, its length and its bytes.
+// A content as it is written: its first refusal, its length and its bytes.
 ghost use mathlib.Core.Path.{_≡_};
 ghost use lib.ListN.{length};
 ghost use Rattle.wire.specs.Lay.{put};
 ghost use Rattle.composed_items.specs.inner.Passes.{capped};
-ghost use Rattle.contents.specs.Body.{lent, bodyKinds, bodyRefusal, bodyBytes};
-use crate::body::Body;
-use crate::body::held_in;
+ghost use Rattle.contents.specs.Content.{lent, contentKinds, contentRefusal, contentBytes};
+use crate::content::Content;
+use crate::content::held_in;
 use base::Limit;
 use composed_items::kinds_refusal;
 use composed_items::put_composed;
@@ -24,16 +24,16 @@ fn cap(n: usize) -> usize
     }
 }
 
-impl Body {
+impl Content {
     // 29 where a composed item's kind is none, or is no value in a command; otherwise 0.
     pub fn kinds_refusal(self, is_event: bool, kinds: &[[u8; 2]], spans: &[[u32; 2]]) -> u8
-        ensures { λ r. ⌜ r ≡ bodyKinds «is_event» (now (kinds .entry)) (now (spans .entry)) self ⌝ }
+        ensures { λ r. ⌜ r ≡ contentKinds «is_event» (now (kinds .entry)) (now (spans .entry)) self ⌝ }
     {
         match self {
-            Body::Empty => 0,
-            Body::Sealed(_) => 0,
-            Body::Open { held: _, run: _ } => 0,
-            Body::Items(n) => kinds_refusal(is_event, n, kinds, spans),
+            Content::Empty => 0,
+            Content::Sealed(_) => 0,
+            Content::Open { held: _, run: _ } => 0,
+            Content::Items(n) => kinds_refusal(is_event, n, kinds, spans),
         }
     }
 
@@ -49,13 +49,13 @@ impl Body {
         rssis: &[i16],
         snrs: &[i8],
     ) -> u8
-        ensures { λ r. ⌜ r ≡ bodyRefusal «is_event» (lent (now (frame .entry)) (now (work .entry)) (now (kinds .entry)) (now (spans .entry)) (now (ids .entry)) (now (rssis .entry)) (now (snrs .entry))) self ⌝ }
+        ensures { λ r. ⌜ r ≡ contentRefusal «is_event» (lent (now (frame .entry)) (now (work .entry)) (now (kinds .entry)) (now (spans .entry)) (now (ids .entry)) (now (rssis .entry)) (now (snrs .entry))) self ⌝ }
     {
         match self {
-            Body::Empty => 0,
-            Body::Sealed(run) => run.refusal(frame.len()),
-            Body::Open { held, run } => run.refusal(held_in(held, frame, work).len()),
-            Body::Items(n) => verdict(is_event, n, kinds, spans, ids, rssis, snrs, work),
+            Content::Empty => 0,
+            Content::Sealed(run) => run.refusal(frame.len()),
+            Content::Open { held, run } => run.refusal(held_in(held, frame, work).len()),
+            Content::Items(n) => verdict(is_event, n, kinds, spans, ids, rssis, snrs, work),
         }
     }
 
@@ -71,16 +71,16 @@ impl Body {
         rssis: &[i16],
         snrs: &[i8],
     ) -> usize
-        ensures { λ r. ⌜ r ≡ capped (length (bodyBytes «is_event» (lent (now (frame .entry)) (now (work .entry)) (now (kinds .entry)) (now (spans .entry)) (now (ids .entry)) (now (rssis .entry)) (now (snrs .entry))) self)) ⌝ }
+        ensures { λ r. ⌜ r ≡ capped (length (contentBytes «is_event» (lent (now (frame .entry)) (now (work .entry)) (now (kinds .entry)) (now (spans .entry)) (now (ids .entry)) (now (rssis .entry)) (now (snrs .entry))) self)) ⌝ }
     {
         match self {
-            Body::Empty => 0,
-            Body::Sealed(run) => cap(run.bytes(frame).len()),
-            Body::Open { held, run } => {
+            Content::Empty => 0,
+            Content::Sealed(run) => cap(run.bytes(frame).len()),
+            Content::Open { held, run } => {
                 let told = count_items(run.bytes(held_in(held, frame, work)), is_event);
                 cap(told.kept_bytes)
             }
-            Body::Items(n) => composed_items::size(
+            Content::Items(n) => composed_items::size(
                 is_event,
                 n,
                 kinds,
@@ -107,18 +107,18 @@ impl Body {
         out: &mut [u8],
         at: usize,
     )
-        ensures { λ _. ⌜ now (out .exit) ≡ put (now (out .entry)) at (bodyBytes «is_event» (lent (now (frame .entry)) (now (work .entry)) (now (kinds .entry)) (now (spans .entry)) (now (ids .entry)) (now (rssis .entry)) (now (snrs .entry))) self) ⌝ }
+        ensures { λ _. ⌜ now (out .exit) ≡ put (now (out .entry)) at (contentBytes «is_event» (lent (now (frame .entry)) (now (work .entry)) (now (kinds .entry)) (now (spans .entry)) (now (ids .entry)) (now (rssis .entry)) (now (snrs .entry))) self) ⌝ }
     {
         match self {
-            Body::Empty => {}
-            Body::Sealed(run) => put_all(run.bytes(frame), out, at),
-            Body::Open { held, run } => put_kept(
+            Content::Empty => {}
+            Content::Sealed(run) => put_all(run.bytes(frame), out, at),
+            Content::Open { held, run } => put_kept(
                 is_event,
                 run.bytes(held_in(held, frame, work)),
                 out,
                 at,
             ),
-            Body::Items(n) => put_composed(
+            Content::Items(n) => put_composed(
                 is_event,
                 n,
                 kinds,

@@ -37,9 +37,9 @@ use Rattle.links.specs.declared.downlink.DownlinkPayload.{DownlinkPayload}
 use Rattle.links.specs.declared.downlink.DownlinkRead.{DownlinkRead}
 use Rattle.links.specs.declared.downlink.DownlinkRead.the-variants.{Payload as DownlinkIs, Refused as NoDownlink}
 use Rattle.links.proofs.Laws.{uplink-was, downlink-was}
-use Rattle.contents.specs.Body.{bodyOf}
-use Rattle.contents.specs.declared.body.Body.{Body}
-use Rattle.contents.specs.declared.body.Body.the-variants.{Empty, Sealed}
+use Rattle.contents.specs.Content.{contentOf}
+use Rattle.contents.specs.declared.content.Content.{Content}
+use Rattle.contents.specs.declared.content.Content.the-variants.{Empty, Sealed}
 use Rattle.events.specs.Read.{eventAt, commandAt}
 use Rattle.events.specs.declared.stamped.EventPayload.{EventPayload}
 use Rattle.events.specs.declared.stamped.EventRead.{EventRead}
@@ -84,7 +84,7 @@ C-is s p small read = by (p .mhdr .«payload_type») where
   by Command = refl
 
 -- nothing, or the run r
-pub data Placed (r : Run) : Body → Type 0 where
+pub data Placed (r : Run) : Content → Type 0 where
   nowhere : Placed r Empty
   there : Placed r (Sealed r)
 
@@ -92,7 +92,7 @@ pub data Placed (r : Run) : Body → Type 0 where
 abbrev pub runIn : List ℕ → Run
 runIn b = record { start = 9; len = length b - 8 }
 
-placed : (b : List ℕ) → Placed (runIn b) (bodyOf 9 (length b - 8))
+placed : (b : List ℕ) → Placed (runIn b) (contentOf 9 (length b - 8))
 placed b = by (eqb (length b - 8) 0) where
   by : (t : Bool) → Placed (runIn b) (pick t Empty (Sealed (runIn b)))
   by true = nowhere

@@ -12,11 +12,11 @@ use Rattle.wire.specs.Run.{runRefusal, runBytes}
 use Rattle.wire.specs.declared.run.Run.{Run}
 use Rattle.items.specs.Items.{pieces, openingOf, nothing}
 use Rattle.key_stream.specs.Stream.{sealedOf}
-use Rattle.contents.specs.Body.{heldIn, payloadOf}
-use Rattle.contents.specs.declared.body.Held.{Held}
-use Rattle.contents.specs.declared.body.Held.the-variants.{Frame as InFrame, Work as InWork}
-use Rattle.contents.specs.declared.body.Body.{Body}
-use Rattle.contents.specs.declared.body.Body.the-variants.{Empty, Open}
+use Rattle.contents.specs.Content.{heldIn, payloadOf}
+use Rattle.contents.specs.declared.content.Held.{Held}
+use Rattle.contents.specs.declared.content.Held.the-variants.{Frame as InFrame, Work as InWork}
+use Rattle.contents.specs.declared.content.Content.{Content}
+use Rattle.contents.specs.declared.content.Content.the-variants.{Empty, Open}
 use Rattle.events.specs.declared.stamped.EventPayload.{EventPayload}
 use Rattle.events.specs.declared.stamped.CommandPayload.{CommandPayload}
 use Rattle.packets.specs.Read.{carrying}
@@ -25,8 +25,8 @@ use Rattle.packets.specs.declared.mesh.MeshPacket.{MeshPacket}
 use Rattle.sealing.specs.Open.{refusedOr, openedAs, sealWire, openedBy, readSealed, decryptOf, workAfter, decodeOf}
 use Rattle.sealing.specs.Seal.{eventOpened, commandOpened}
 use Rattle.sealing.specs.Mesh.{ofEventOpened, ofCommandOpened, meshDecrypted, meshWork, meshDecoded}
-use Rattle.sealing.specs.declared.body.Opened.{Opened}
-use Rattle.sealing.specs.declared.body.Opened.the-variants.{Opened as Now, AlreadyOpen, Refused}
+use Rattle.sealing.specs.declared.content.Opened.{Opened}
+use Rattle.sealing.specs.declared.content.Opened.the-variants.{Opened as Now, AlreadyOpen, Refused}
 use Rattle.sealing.specs.declared.mesh.MeshOpened.{MeshOpened}
 use Rattle.sealing.specs.declared.mesh.MeshOpened.the-variants.{Opened as MeshNow, AlreadyOpen as MeshOpen, Refused as MeshNot}
 use Rattle.demand.specs.Demand.{openedUnder, bytesIn, isEvent, piecesIn, ofOpened, decrypted, decoded}
@@ -40,7 +40,7 @@ opened (Refused n) f k = []
 
 -- f and g agree in the run r
 module _ (f g : List ℕ) (r : Run) (long : length g ≡ length f) (same : runBytes g r ≡ runBytes f r) where
-  payload-by : (b : Body) → Placed r b → (k : List ℕ) → payloadOf b g k ≡ payloadOf b f k
+  payload-by : (b : Content) → Placed r b → (k : List ℕ) → payloadOf b g k ≡ payloadOf b f k
   unfolding payloadOf
   payload-by _ nowhere k = refl
   payload-by _ there k = same
@@ -49,17 +49,17 @@ module _ (f g : List ℕ) (r : Run) (long : length g ≡ length f) (same : runBy
     seal-same : sealWire key ev relay time g r ≡ sealWire key ev relay time f r
     seal-same = ap₂ (λ (n : ℕ) (v : List ℕ). unlessRefused (runRefusal n r) (sealedOf key ev relay time v)) long same
 
-    work-by : (b : Body) → Placed r b → (k : List ℕ) → workAfter key ev relay time b g k ≡ workAfter key ev relay time b f k
+    work-by : (b : Content) → Placed r b → (k : List ℕ) → workAfter key ev relay time b g k ≡ workAfter key ev relay time b f k
     unfolding workAfter
     work-by _ nowhere k = refl
     work-by _ there k = ap (λ (x : Frame). outOf x k) seal-same
 
-    decrypt-by : (b : Body) → Placed r b → (k : List ℕ) → decryptOf key ev relay time b g k ≡ decryptOf key ev relay time b f k
+    decrypt-by : (b : Content) → Placed r b → (k : List ℕ) → decryptOf key ev relay time b g k ≡ decryptOf key ev relay time b f k
     unfolding decryptOf
     decrypt-by _ nowhere k = refl
     decrypt-by _ there k = ap (λ (x : Frame). openedBy ev x k) seal-same
 
-  decode-by : (ev : Bool) (b : Body) → Placed r b → (k : List ℕ) → decodeOf ev b g k ≡ decodeOf ev b f k
+  decode-by : (ev : Bool) (b : Content) → Placed r b → (k : List ℕ) → decodeOf ev b g k ≡ decodeOf ev b f k
   unfolding decodeOf readSealed
   decode-by ev _ nowhere k = refl
   decode-by ev _ there k =
@@ -83,13 +83,13 @@ module _ (f g : List ℕ) (r : Run) (long : length g ≡ length f) (same : runBy
       let a : Run = record { start = 0; len = length v } in
       either (ltb (length k) (length v)) (Refused outputShort) (openedAs InWork a (openingOf ev v)) m refl (held-by InWork a (eqb (openingOf ev v .kept) 0) m refl)
 
-  decrypted-by : (key : List ℕ) (ev : Bool) (relay time : ℕ) (b : Body) → Placed r b → (k m : List ℕ)
+  decrypted-by : (key : List ℕ) (ev : Bool) (relay time : ℕ) (b : Content) → Placed r b → (k m : List ℕ)
       → opened (decryptOf key ev relay time b f k) g m ≡ opened (decryptOf key ev relay time b f k) f m
   unfolding decryptOf payloadOf
   decrypted-by key ev relay time _ nowhere k m = refl
   decrypted-by key ev relay time _ there k m = in-work ev (sealWire key ev relay time f r) k m
 
-  decoded-by : (ev : Bool) (b : Body) → Placed r b → (k m : List ℕ) → opened (decodeOf ev b f k) g m ≡ opened (decodeOf ev b f k) f m
+  decoded-by : (ev : Bool) (b : Content) → Placed r b → (k m : List ℕ) → opened (decodeOf ev b f k) g m ≡ opened (decodeOf ev b f k) f m
   unfolding decodeOf readSealed payloadOf
   decoded-by ev _ nowhere k m = refl
   decoded-by ev _ there k m =

@@ -11,7 +11,7 @@ use Rattle.base.specs.Answers.{Frame, bytes, refused}
 use Rattle.base.specs.Blocks.{Block}
 use Rattle.fips197.specs.Aes.{aes}
 use Rattle.items.specs.Items.{Piece, pieces}
-use Rattle.contents.specs.Body.{payloadOf}
+use Rattle.contents.specs.Content.{payloadOf}
 use Rattle.packets.specs.Read.{carrying}
 use Rattle.packets.specs.declared.mesh.Payload.{Payload}
 use Rattle.packets.specs.declared.mesh.Payload.the-variants.{Uplink, Downlink, Event, Command}

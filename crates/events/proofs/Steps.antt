@@ -1,4 +1,4 @@
--- The steps that writing an event or a command takes, over any body, output and lent lists. Assumes nothing.
+-- The steps that writing an event or a command takes, over any content, output and lent lists. Assumes nothing.
 use Prim.Native.Nat.{ℕ, _+_, _≤_, _<_}
 use native.Mathlib.Omega.{arith}
 use mathlib.Core.Bool.{Bool, true, false}
@@ -19,7 +19,7 @@ use Rattle.composed_items.specs.inner.Passes.{capped}
 use Rattle.composed_items.proofs.Laws.{capped-is, capped-over}
 use Rattle.links.specs.Write.{prefixed, limited, limitedOf, withMic, headedBy}
 use Rattle.links.proofs.Steps.{Outcome, refuses, same-frame, body-refused, frame-refused, no-mic, frame-long, frame-whole, four-length, four-puts}
-use Rattle.contents.specs.Body.{Lent, bodyRefusal, bodyBytes, bodyWire}
+use Rattle.contents.specs.Content.{Lent, contentRefusal, contentBytes, contentWire}
 use Rattle.events.specs.Write.{stamp, stampedWire}
 use Rattle.events.specs.declared.stamped.Stamped.{Stamped}
 use Rattle.events.proofs.Laws.{stamp-length}
@@ -83,14 +83,14 @@ module _ (h v o : List ℕ) (l : length h ≡ 8) where
 
 -- ---- a body, and the frame around it
 
-module _ (ev : Bool) (l : Lent) (p : Stamped) (o : List ℕ) (k : ℕ) (ek : k ≡ bodyRefusal ev l (p .body)) where
+module _ (ev : Bool) (l : Lent) (p : Stamped) (o : List ℕ) (k : ℕ) (ek : k ≡ contentRefusal ev l (p .content)) where
   wire-refused : (k ≡ 0 → ⊥) → stampedWire ev l p ≡ refused k
-  unfolding stampedWire bodyWire
-  wire-refused h = ap (headedBy (stamp (p .timestamp) (p .«relay_id»))) (sym (is-refused k _ (bytes (bodyBytes ev l (p .body))) ek h))
+  unfolding stampedWire contentWire
+  wire-refused h = ap (headedBy (stamp (p .timestamp) (p .«relay_id»))) (sym (is-refused k _ (bytes (contentBytes ev l (p .content))) ek h))
 
-  wire-bytes : k ≡ 0 → stampedWire ev l p ≡ bytes (stamp (p .timestamp) (p .«relay_id») ++ bodyBytes ev l (p .body))
-  unfolding stampedWire bodyWire
-  wire-bytes h = ap (headedBy (stamp (p .timestamp) (p .«relay_id»))) (sym (not-refused (bodyRefusal ev l (p .body)) (bytes (bodyBytes ev l (p .body))) (sym ek ∙ h)))
+  wire-bytes : k ≡ 0 → stampedWire ev l p ≡ bytes (stamp (p .timestamp) (p .«relay_id») ++ contentBytes ev l (p .content))
+  unfolding stampedWire contentWire
+  wire-bytes h = ap (headedBy (stamp (p .timestamp) (p .«relay_id»))) (sym (not-refused (contentRefusal ev l (p .content)) (bytes (contentBytes ev l (p .content))) (sym ek ∙ h)))
 
   pub write-refused : (k ≡ 0 → ⊥) → Outcome (Refused k) o (limitedOf (stampedWire ev l p)) o
   write-refused h = body-refused (stampedWire ev l p) k o (wire-refused h)
@@ -103,7 +103,7 @@ module _ (ev : Bool) (l : Lent) (p : Stamped) (o : List ℕ) (k : ℕ) (ek : k �
     head = stamp (p .timestamp) (p .«relay_id»)
 
     body : List ℕ
-    body = bodyBytes ev l (p .body)
+    body = contentBytes ev l (p .content)
 
     as-body : (r : Written) (x : List ℕ) (f : Frame) → limited (head ++ body) ≡ f → Outcome r x f o → Outcome r x (limitedOf (stampedWire ev l p)) o
     unfolding head body
@@ -121,7 +121,7 @@ module _ (ev : Bool) (l : Lent) (p : Stamped) (o : List ℕ) (k : ℕ) (ek : k �
     pub in-no-mic : (has : Bool) (mic first : ℕ) → has ≡ false → Outcome (Refused micMissing) o (withMic has mic (prefixed first (stampedWire ev l p))) o
     in-no-mic has mic first e = as-frame has mic first _ _ (refused micMissing) (no-mic has mic first head body e) (refuses (refused micMissing) micMissing o refl)
 
-    module _ (n : ℕ) (en : n ≡ capped (length (bodyBytes ev l (p .body)))) where
+    module _ (n : ℕ) (en : n ≡ capped (length (contentBytes ev l (p .content)))) where
       pub write-long : 8179 < n → Outcome (Refused frameLong) o (limitedOf (stampedWire ev l p)) o
       unfolding body
       write-long h = as-body _ _ (refused frameLong) (over head body o eight (capped-large n _ en h)) (refuses (refused frameLong) frameLong o refl)
@@ -143,7 +143,7 @@ module _ (ev : Bool) (l : Lent) (p : Stamped) (o : List ℕ) (k : ℕ) (ek : k �
             let s = same in
             as-body _ _ (bytes (head ++ body)) (whole head body o eight (omega arith)) (both-short head body o eight (omega arith))
 
-        pub write-done : (h x y : List ℕ) → 8 + n ≤ length o → h ≡ stamp (p .timestamp) (p .«relay_id») → x ≡ put o 0 h → y ≡ put x 8 (bodyBytes ev l (p .body))
+        pub write-done : (h x y : List ℕ) → 8 + n ≤ length o → h ≡ stamp (p .timestamp) (p .«relay_id») → x ≡ put o 0 h → y ≡ put x 8 (contentBytes ev l (p .content))
             → Outcome (Bytes (8 + n)) y (limitedOf (stampedWire ev l p)) o
         unfolding head body
         write-done h x y g eh ex ey =
@@ -158,7 +158,7 @@ module _ (ev : Bool) (l : Lent) (p : Stamped) (o : List ℕ) (k : ℕ) (ek : k �
               as-frame has mic first _ _ _ (framed-is head body o eight first mic (beBytes 4 mic) refl has t (omega arith)) (framed-short head body o eight first mic (beBytes 4 mic) refl (omega arith))
 
           pub in-done : (h m w x y q : List ℕ) → 13 + n ≤ length o → h ≡ stamp (p .timestamp) (p .«relay_id») → m ≡ beBytes 4 mic
-              → w ≡ put o 0 (first ∷ []) → x ≡ put w 1 h → y ≡ put x 9 (bodyBytes ev l (p .body)) → q ≡ put y (9 + n) m
+              → w ≡ put o 0 (first ∷ []) → x ≡ put w 1 h → y ≡ put x 9 (contentBytes ev l (p .content)) → q ≡ put y (9 + n) m
               → Outcome (Bytes (13 + n)) q (withMic has mic (prefixed first (stampedWire ev l p))) o
           unfolding head body
           in-done h m w x y q g eh em ew ex ey eq =

@@ -7,7 +7,7 @@ use Rattle.base.specs.Pick.{pick}
 use Rattle.base.specs.Numbers.{frameLong, bodyShort, bodyMost}
 use Rattle.base.specs.Answers.{Answer, value, number}
 use Rattle.links.specs.Read.{fourAt}
-use Rattle.contents.specs.Body.{bodyOf}
+use Rattle.contents.specs.Content.{contentOf}
 use Rattle.events.specs.declared.stamped.EventPayload.{EventPayload}
 use Rattle.events.specs.declared.stamped.EventRead.{EventRead}
 use Rattle.events.specs.declared.stamped.EventRead.the-variants.{Payload as AnEvent, Refused as NoEvent}
@@ -21,15 +21,15 @@ unfoldable pub stampedAt : ℕ → List ℕ → StampedRead
 stampedAt at b =
     pick (ltb bodyMost (length b)) (NoStamped frameLong)
     (pick (ltb (length b) 8) (NoStamped bodyShort)
-    (AStamped (record { timestamp = fourAt b 0; «relay_id» = fourAt b 4; body = bodyOf (8 + at) (length b - 8) })))
+    (AStamped (record { timestamp = fourAt b 0; «relay_id» = fourAt b 4; content = contentOf (8 + at) (length b - 8) })))
 
 abbrev pub asEvent : StampedRead → EventRead
 asEvent (NoStamped n) = NoEvent n
-asEvent (AStamped s) = AnEvent (record { timestamp = s .timestamp; «relay_id» = s .«relay_id»; events = s .body })
+asEvent (AStamped s) = AnEvent (record { timestamp = s .timestamp; «relay_id» = s .«relay_id»; events = s .content })
 
 abbrev pub asCommand : StampedRead → CommandRead
 asCommand (NoStamped n) = NoCommand n
-asCommand (AStamped s) = ACommand (record { timestamp = s .timestamp; «relay_id» = s .«relay_id»; commands = s .body })
+asCommand (AStamped s) = ACommand (record { timestamp = s .timestamp; «relay_id» = s .«relay_id»; commands = s .content })
 
 unfoldable pub eventAt : ℕ → List ℕ → EventRead
 eventAt at b = asEvent (stampedAt at b)

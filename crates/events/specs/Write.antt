@@ -5,7 +5,7 @@ use mathlib.Core.Bool.{Bool, true, false}
 use mathlib.Core.List.{List, _++_}
 use Rattle.base.specs.Answers.{Frame}
 use Rattle.wire.specs.Number.{beBytes}
-use Rattle.contents.specs.Body.{Lent, bodyWire}
+use Rattle.contents.specs.Content.{Lent, contentWire}
 use Rattle.events.specs.declared.stamped.EventPayload.{EventPayload}
 use Rattle.events.specs.declared.stamped.CommandPayload.{CommandPayload}
 use Rattle.events.specs.declared.stamped.Stamped.{Stamped}
@@ -16,13 +16,13 @@ unfoldable pub stamp : ℕ → ℕ → List ℕ
 stamp time relay = beBytes 4 time ++ beBytes 4 relay
 
 unfoldable pub stampedWire : Bool → Lent → Stamped → Frame
-stampedWire ev l p = headedBy (stamp (p .timestamp) (p .«relay_id»)) (bodyWire ev l (p .body))
+stampedWire ev l p = headedBy (stamp (p .timestamp) (p .«relay_id»)) (contentWire ev l (p .content))
 
 abbrev pub stampedOfEvent : EventPayload → Stamped
-stampedOfEvent p = record { timestamp = p .timestamp; «relay_id» = p .«relay_id»; body = p .events }
+stampedOfEvent p = record { timestamp = p .timestamp; «relay_id» = p .«relay_id»; content = p .events }
 
 abbrev pub stampedOfCommand : CommandPayload → Stamped
-stampedOfCommand p = record { timestamp = p .timestamp; «relay_id» = p .«relay_id»; body = p .commands }
+stampedOfCommand p = record { timestamp = p .timestamp; «relay_id» = p .«relay_id»; content = p .commands }
 
 unfoldable pub eventWire : Lent → EventPayload → Frame
 eventWire l p = stampedWire true l (stampedOfEvent p)

@@ -2,13 +2,13 @@
 ghost use mathlib.Core.Path.{_≡_};
 ghost use Rattle.base.specs.Answers.{answerOf, outOf};
 ghost use Rattle.links.specs.Write.{limitedOf, prefixed, withMic};
-ghost use Rattle.contents.specs.Body.{lent};
+ghost use Rattle.contents.specs.Content.{lent};
 ghost use Rattle.events.specs.Read.{stampedAt, eventAt, commandAt};
 ghost use Rattle.events.specs.Write.{stamp, stampedOfEvent, stampedOfCommand, eventWire, commandWire, stampedWire};
 use base::Limit;
 use base::Refusal;
 use base::Written;
-use contents::Body;
+use contents::Content;
 use wire::be32_bytes;
 use wire::be32_of;
 use wire::put_all;
@@ -16,7 +16,7 @@ use wire::put_all;
 pub struct EventPayload {
     pub timestamp: u32,
     pub relay_id: u32,
-    pub events: Body,
+    pub events: Content,
 }
 
 pub enum EventRead {
@@ -27,7 +27,7 @@ pub enum EventRead {
 pub struct CommandPayload {
     pub timestamp: u32,
     pub relay_id: u32,
-    pub commands: Body,
+    pub commands: Content,
 }
 
 pub enum CommandRead {
@@ -39,7 +39,7 @@ pub enum CommandRead {
 struct Stamped {
     timestamp: u32,
     relay_id: u32,
-    body: Body,
+    content: Content,
 }
 
 enum StampedRead {
@@ -54,13 +54,13 @@ impl Stamped {
         if Limit::BODY < b.len() {
             return StampedRead::Refused(Refusal::FRAME_LONG);
         }
-        if b.len() < Body::LEAST {
+        if b.len() < Content::LEAST {
             return StampedRead::Refused(Refusal::BODY_SHORT);
         }
         StampedRead::Stamped(Stamped {
             timestamp: be32_of(b[0], b[1], b[2], b[3]),
             relay_id: be32_of(b[4], b[5], b[6], b[7]),
-            body: Body::of(Body::LEAST + at as usize, b.len() - Body::LEAST),
+            content: Content::of(Content::LEAST + at as usize, b.len() - Content::LEAST),
         })
     }
 
@@ -87,12 +87,12 @@ impl Stamped {
         ensures answer { λ r. ⌜ r ≡ answerOf (limitedOf (stampedWire «is_event» (lent (now (frame .entry)) (now (work .entry)) (now (kinds .entry)) (now (spans .entry)) (now (ids .entry)) (now (rssis .entry)) (now (snrs .entry))) self)) (now (out .entry)) ⌝ }
         ensures bytes { λ _. ⌜ now (out .exit) ≡ outOf (limitedOf (stampedWire «is_event» (lent (now (frame .entry)) (now (work .entry)) (now (kinds .entry)) (now (spans .entry)) (now (ids .entry)) (now (rssis .entry)) (now (snrs .entry))) self)) (now (out .entry)) ⌝ }
     {
-        let body = self.body;
-        let bad = body.refusal(is_event, frame, work, kinds, spans, ids, rssis, snrs);
+        let content = self.content;
+        let bad = content.refusal(is_event, frame, work, kinds, spans, ids, rssis, snrs);
         if bad != 0 {
             return Written::Refused(bad);
         }
-        let n = body.size(is_event, frame, work, kinds, spans, ids, rssis, snrs);
+        let n = content.size(is_event, frame, work, kinds, spans, ids, rssis, snrs);
         if Limit::PAYLOAD < n {
             return Written::Refused(Refusal::FRAME_LONG);
         }
@@ -101,7 +101,7 @@ impl Stamped {
         }
         let h = self.head();
         put_all(&h, out, 0);
-        body.put(
+        content.put(
             is_event,
             frame,
             work,
@@ -134,15 +134,15 @@ impl Stamped {
         ensures answer { λ r. ⌜ r ≡ answerOf (withMic «has_mic» mic (prefixed first (stampedWire «is_event» (lent (now (frame .entry)) (now (work .entry)) (now (kinds .entry)) (now (spans .entry)) (now (ids .entry)) (now (rssis .entry)) (now (snrs .entry))) self))) (now (out .entry)) ⌝ }
         ensures bytes { λ _. ⌜ now (out .exit) ≡ outOf (withMic «has_mic» mic (prefixed first (stampedWire «is_event» (lent (now (frame .entry)) (now (work .entry)) (now (kinds .entry)) (now (spans .entry)) (now (ids .entry)) (now (rssis .entry)) (now (snrs .entry))) self))) (now (out .entry)) ⌝ }
     {
-        let body = self.body;
-        let bad = body.refusal(is_event, frame, work, kinds, spans, ids, rssis, snrs);
+        let content = self.content;
+        let bad = content.refusal(is_event, frame, work, kinds, spans, ids, rssis, snrs);
         if bad != 0 {
             return Written::Refused(bad);
         }
         if !has_mic {
             return Written::Refused(Refusal::MIC_MISSING);
         }
-        let n = body.size(is_event, frame, work, kinds, spans, ids, rssis, snrs);
+        let n = content.size(is_event, frame, work, kinds, spans, ids, rssis, snrs);
         if Limit::PAYLOAD < n {
             return Written::Refused(Refusal::FRAME_LONG);
         }
@@ -154,7 +154,7 @@ impl Stamped {
         let last = be32_bytes(mic);
         put_all(&byte, out, 0);
         put_all(&h, out, 1);
-        body.put(
+        content.put(
             is_event,
             frame,
             work,
@@ -179,7 +179,7 @@ impl EventPayload {
         match Stamped::read_at(b, at) {
             StampedRead::Refused(n) => EventRead::Refused(n),
             StampedRead::Stamped(s) => {
-                let events = s.body;
+                let events = s.content;
                 EventRead::Payload(EventPayload {
                     timestamp: s.timestamp,
                     relay_id: s.relay_id,
@@ -198,11 +198,11 @@ impl EventPayload {
     fn stamped(self) -> Stamped
         ensures { λ r. ⌜ r ≡ stampedOfEvent self ⌝ }
     {
-        let body = self.events;
+        let content = self.events;
         Stamped {
             timestamp: self.timestamp,
             relay_id: self.relay_id,
-            body,
+            content,
         }
     }
 
@@ -275,7 +275,7 @@ impl CommandPayload {
         match Stamped::read_at(b, at) {
             StampedRead::Refused(n) => CommandRead::Refused(n),
             StampedRead::Stamped(s) => {
-                let commands = s.body;
+                let commands = s.content;
                 CommandRead::Payload(CommandPayload {
                     timestamp: s.timestamp,
                     relay_id: s.relay_id,
@@ -294,11 +294,11 @@ impl CommandPayload {
     fn stamped(self) -> Stamped
         ensures { λ r. ⌜ r ≡ stampedOfCommand self ⌝ }
     {
-        let body = self.commands;
+        let content = self.commands;
         Stamped {
             timestamp: self.timestamp,
             relay_id: self.relay_id,
-            body,
+            content,
         }
     }
 

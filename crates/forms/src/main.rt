@@ -8,7 +8,7 @@ use base::Written;
 use cache::Cache;
 use cache::CacheAnswer;
 use cache::PayloadCache;
-use contents::Body;
+use contents::Content;
 use contents::Held;
 use events::CommandPayload;
 use events::CommandRead;
@@ -213,19 +213,19 @@ fn paths() {
 }
 
 // ---- an item's value
-fn value<'a>(label: &[u8], body: Body, item: Item, frame: &'a [u8], work: &'a [u8]) {
+fn value<'a>(label: &[u8], content: Content, item: Item, frame: &'a [u8], work: &'a [u8]) {
     let mut refused = 0u8;
-    hex(label, body.value(item, frame, work, &mut refused));
+    hex(label, content.value(item, frame, work, &mut refused));
     if refused != 0 {
         plain(b"refused ", refused as u64);
     }
     say(b"\n");
 }
 
-// The first item of a body's payload.
-fn first<'a>(label: &[u8], body: Body, frame: &'a [u8], work: &'a [u8]) {
-    match Event::decode(body.payload(frame, work), 0) {
-        ItemRead::Kept { item, next: _ } => value(label, body, item, frame, work),
+// The first item of a content's payload.
+fn first<'a>(label: &[u8], content: Content, frame: &'a [u8], work: &'a [u8]) {
+    match Event::decode(content.payload(frame, work), 0) {
+        ItemRead::Kept { item, next: _ } => value(label, content, item, frame, work),
         _ => say(b"no item\n"),
     }
 }
@@ -233,11 +233,11 @@ fn first<'a>(label: &[u8], body: Body, frame: &'a [u8], work: &'a [u8]) {
 fn values() {
     let frame = b"\xee\x01\x02\xaa\xbb\xee";
     let work = b"\x05\x03\x01\x02\x03";
-    let in_frame = Body::Open {
+    let in_frame = Content::Open {
         held: Held::Frame,
         run: Run { start: 1, len: 4 },
     };
-    let in_work = Body::Open {
+    let in_work = Content::Open {
         held: Held::Work,
         run: Run { start: 0, len: 5 },
     };

@@ -3,7 +3,7 @@ use Prim.Native.Nat.{ℕ}
 use mathlib.Core.List.{List, []}
 use Rattle.base.specs.Answers.{Frame, bytes, refused}
 use Rattle.fields.specs.declared.header.MHDR.{MHDR}
-use Rattle.contents.specs.Body.{Lent, lent}
+use Rattle.contents.specs.Content.{Lent, lent}
 use Rattle.packets.specs.Read.{meshOf}
 use Rattle.packets.specs.Write.{meshFrame}
 use Rattle.packets.specs.declared.mesh.MeshPacket.{MeshPacket}

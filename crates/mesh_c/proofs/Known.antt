@@ -15,7 +15,7 @@ use Rattle.fields.proofs.Laws.Header.{type-of-two-bits}
 use Rattle.packets.specs.Read.{meshSays}
 use Rattle.packets.specs.declared.mesh.MeshRead.{MeshRead}
 use Rattle.packets.specs.declared.mesh.MeshRead.the-variants.{Refused}
-use Rattle.numbers.specs.Numbers.{atMost, tooWide, strangeBody, typedBy, kindBy, meshFrom}
+use Rattle.numbers.specs.Numbers.{atMost, tooWide, strangeContent, typedBy, kindBy, meshFrom}
 use Rattle.numbers.proofs.Laws.{no-type, mesh-wide, mesh-strange, mesh-known}
 use Rattle.cache.specs.Cache.{recordOf}
 use Rattle.mesh_c.specs.Face.{recordIn}
@@ -34,7 +34,7 @@ module _ (ns xs : List ℕ) (b : Bool) (e : b ≡ tooWide ns) where
   pub no-width : b ≡ true → Left read xs 29 xs
   no-width h = kept read 29 xs (mesh-wide ns (pos 0) (pos 0) b e h)
 
-  module _ (g : b ≡ false) (d : Bool) (f : d ≡ strangeBody ns) where
+  module _ (g : b ≡ false) (d : Bool) (f : d ≡ strangeContent ns) where
     pub no-body : d ≡ true → Left read xs 29 xs
     no-body h = kept read 29 xs (mesh-strange ns (pos 0) (pos 0) b e g d f h)
 

@@ -25,7 +25,7 @@ use Rattle.heartbeats.specs.declared.heartbeat.HeartbeatPayload.{HeartbeatPaylo
 use Rattle.items.specs.Items.{kindCode, Found, keptItem, skippedItem, cutTail, noItem}
 use Rattle.items.specs.declared.item.Item.{Item}
 use Rattle.items.specs.declared.count.Opening.{Opening}
-use Rattle.contents.specs.Body.{Lent}
+use Rattle.contents.specs.Content.{Lent}
 use Rattle.links.specs.Write.{limitedOf}
 use Rattle.packets.specs.Write.{payloadWire}
 use Rattle.sealing.specs.Mesh.{sealOf, meshSealed, meshDecrypted, meshWork, meshDecoded}
@@ -139,7 +139,7 @@ signedLeft ns a = leftBy (λ (p : MeshPacket). micSet ns (p .mic)) ns a
 abbrev pub placedLeft : List ℕ → Answer MeshPacket → List ℕ
 placedLeft ns a = leftBy (λ (p : MeshPacket). placeSet ns (payloadPlace (p .payload))) ns a
 
--- an opening says 255 where the body was open before
+-- an opening says 255 where the content was open before
 abbrev pub openedNumber : {A : Type 0} → Answer (Told A) → ℕ
 openedNumber (value (told a o)) = 0
 openedNumber (value wasOpen) = 255

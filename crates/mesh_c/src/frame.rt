@@ -4,7 +4,7 @@ ghost use lib.IntN.{pos};
 ghost use Rattle.base.specs.Answers.{answerOf, outOf, numberIn, leftBy, writtenSays, checkedOf, checkedNumber};
 ghost use Rattle.fips197.specs.Aes.{aes};
 ghost use Rattle.fields.specs.Header.{typeRead};
-ghost use Rattle.contents.specs.Body.{lent};
+ghost use Rattle.contents.specs.Content.{lent};
 ghost use Rattle.links.specs.Write.{limitedOf};
 ghost use Rattle.packets.specs.Read.{packetSays, packetOf, meshSays, meshOf};
 ghost use Rattle.packets.specs.Write.{payloadWire};
@@ -33,7 +33,7 @@ use numbers::put_place;
 use numbers::read_bare;
 use numbers::read_mesh_numbers;
 use numbers::read_numbers;
-use numbers::strange_body;
+use numbers::strange_content;
 use numbers::to_u16;
 use numbers::to_u32;
 use numbers::too_wide;
@@ -365,7 +365,7 @@ pub extern "C" fn mesh_set_hop_count(key: &[u8; 16], frame: &mut [u8], hop_count
     }
 }
 
-// ---- sealing and opening, in place: of the packet only body, start and len change. Of an uplink nothing is sealed, so its rssi and snr, which
+// ---- sealing and opening, in place: of the packet only content, start and len change. Of an uplink nothing is sealed, so its rssi and snr, which
 // these calls do not take, do not count.
 
 fn put_sealed(read: MeshRead, numbers: &mut [u64; 16]) -> u8
@@ -547,7 +547,7 @@ pub extern "C" fn mesh_record(numbers: &[u64; 16], record: &mut [u64; 4]) -> u8
     if too_wide(numbers) {
         return Refusal::TYPE_LARGE;
     }
-    if strange_body(numbers) {
+    if strange_content(numbers) {
         return Refusal::TYPE_LARGE;
     }
     if (PayloadType::COMMAND as u64) < numbers[0] {

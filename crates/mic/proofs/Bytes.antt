@@ -27,9 +27,9 @@ use Rattle.items.specs.Items.{isBeat, badBeat, kept, skipped, cut, pieces}
 use Rattle.kept_items.specs.Kept.{headed, fixed, itemBytes, keptWire, openBytes}
 use Rattle.composed_items.specs.Composed.{Lists, isPath, valueOf, itemWire}
 use Rattle.composed_items.specs.declared.Composed.{Composed}
-use Rattle.contents.specs.Body.{heldIn}
-use Rattle.contents.specs.declared.body.Held.{Held}
-use Rattle.contents.specs.declared.body.Held.the-variants.{Frame as InFrame, Work as InWork}
+use Rattle.contents.specs.Content.{heldIn}
+use Rattle.contents.specs.declared.content.Held.{Held}
+use Rattle.contents.specs.declared.content.Held.the-variants.{Frame as InFrame, Work as InWork}
 
 pub part-lt : (s : List ℕ) (start len : ℕ) → Bytes s → Bytes (partOf s start len)
 unfolding partOf

@@ -22,8 +22,8 @@ use Rattle.cmac_chain.specs.inner.State.{begun, absorb1, finished}
 use Rattle.cmac_chain.specs.declared.Mac.{Mac}
 use Rattle.cmac_chain.proofs.Laws.{finish-tag, tag-same}
 use Rattle.links.specs.Write.{prefixed, headedBy}
-use Rattle.contents.specs.Body.{Lent, bodyRefusal, bodyBytes, bodyWire}
-use Rattle.contents.specs.declared.body.Body.{Body}
+use Rattle.contents.specs.Content.{Lent, contentRefusal, contentBytes, contentWire}
+use Rattle.contents.specs.declared.content.Content.{Content}
 use Rattle.base.proofs.Answers.{is-refused, not-refused}
 use Rattle.fields.specs.Header.{headerByte}
 use Rattle.fields.specs.declared.header.HeaderByte.{HeaderByte}
@@ -82,16 +82,16 @@ module _ (E : List ℕ → List ℕ) where
           h ∙ sym (ap₂ (λ (x : HeaderByte) (y : Frame). madeOf E (fitting (behind x y))) (sym e) q)
           ∙ sym (ap (λ (x : Frame). madeOf E (fitting x)) (message-known l p k known z))
 
--- ---- a body behind its head
+-- ---- a content behind its head
 
-module _ (ev : Bool) (l : Lent) (b : Body) (head : List ℕ) (k : ℕ) (ek : k ≡ bodyRefusal ev l b) where
-  pub wire-refused : (k ≡ 0 → ⊥) → headedBy head (bodyWire ev l b) ≡ refused k
-  unfolding bodyWire
-  wire-refused h = ap (headedBy head) (sym (is-refused k _ (bytes (bodyBytes ev l b)) ek h))
+module _ (ev : Bool) (l : Lent) (b : Content) (head : List ℕ) (k : ℕ) (ek : k ≡ contentRefusal ev l b) where
+  pub wire-refused : (k ≡ 0 → ⊥) → headedBy head (contentWire ev l b) ≡ refused k
+  unfolding contentWire
+  wire-refused h = ap (headedBy head) (sym (is-refused k _ (bytes (contentBytes ev l b)) ek h))
 
-  pub wire-bytes : k ≡ 0 → headedBy head (bodyWire ev l b) ≡ bytes (head ++ bodyBytes ev l b)
-  unfolding bodyWire
-  wire-bytes h = ap (headedBy head) (sym (not-refused (bodyRefusal ev l b) (bytes (bodyBytes ev l b)) (sym ek ∙ h)))
+  pub wire-bytes : k ≡ 0 → headedBy head (contentWire ev l b) ≡ bytes (head ++ contentBytes ev l b)
+  unfolding contentWire
+  wire-bytes h = ap (headedBy head) (sym (not-refused (contentRefusal ev l b) (bytes (contentBytes ev l b)) (sym ek ∙ h)))
 
 -- ---- header byte, head and payload, absorbed one after the other
 

@@ -11,7 +11,7 @@ use Rattle.base.specs.Numbers.{frameLong, micMissing, messageMost}
 use Rattle.base.specs.Answers.{Answer, value, number, Frame, bytes, refused}
 use Rattle.wire.specs.Number.{beOf}
 use Rattle.cmac_chain.specs.Cmac.{tag}
-use Rattle.contents.specs.Body.{Lent}
+use Rattle.contents.specs.Content.{Lent}
 use Rattle.packets.specs.Write.{kindsIn, messageOf}
 use Rattle.packets.specs.declared.mesh.MeshPacket.{MeshPacket}
 use Rattle.packets.specs.declared.mesh.MeshRead.{MeshRead}

@@ -1,4 +1,4 @@
-// What is signed of an event's or a command's body, absorbed by CMAC a piece at a time, as it would be written; nothing is laid out.
+// What is signed of an event's or a command's content, absorbed by CMAC a piece at a time, as it would be written; nothing is laid out.
 ghost use mathlib.Core.Path.{_≡_};
 ghost use mathlib.Core.List.{[], foldl};
 ghost use mathlib.Core.Bool.{true as yes};
@@ -9,7 +9,7 @@ ghost use Rattle.fields.specs.Path.{sixOf};
 ghost use Rattle.kept_items.specs.Kept.{headed, fixed, itemBytes, openBytes};
 ghost use Rattle.heartbeats.specs.Paths.{paths, pathRun};
 ghost use Rattle.composed_items.specs.Composed.{lists, itemWire, composedBytes};
-ghost use Rattle.contents.specs.Body.{lent, bodyBytes};
+ghost use Rattle.contents.specs.Content.{lent, contentBytes};
 use base::Limit;
 use cipher::Cipher;
 use cmac::absorb;
@@ -19,7 +19,7 @@ use composed_items::is_path;
 use composed_items::item_at;
 use composed_items::item_count;
 use composed_items::run_of;
-use contents::Body;
+use contents::Content;
 use contents::held_in;
 use heartbeats::entry;
 use heartbeats::held;
@@ -164,11 +164,11 @@ fn absorb_composed(
     a
 }
 
-// A body's payload: a sealed run as it lies, open or composed items one after another.
-pub(crate) fn absorb_body<'a>(
+// A content: a sealed run as it lies, open or composed items one after another.
+pub(crate) fn absorb_content<'a>(
     m: Mac,
     e: &Cipher,
-    body: Body,
+    content: Content,
     is_event: bool,
     frame: &'a [u8],
     work: &'a [u8],
@@ -178,18 +178,29 @@ pub(crate) fn absorb_body<'a>(
     rssis: &[i16],
     snrs: &[i8],
 ) -> Mac
-    ensures state { λ r. ⌜ r ≡ foldl (absorb1 (enciphered (now (e .entry)))) m (bodyBytes «is_event» (lent (now (frame .entry)) (now (work .entry)) (now (kinds .entry)) (now (spans .entry)) (now (ids .entry)) (now (rssis .entry)) (now (snrs .entry))) body) ⌝ }
-    ensures bytes { λ _. ⌜ Bytes (bodyBytes «is_event» (lent (now (frame .entry)) (now (work .entry)) (now (kinds .entry)) (now (spans .entry)) (now (ids .entry)) (now (rssis .entry)) (now (snrs .entry))) body) ⌝ }
+    ensures state { λ r. ⌜ r ≡ foldl (absorb1 (enciphered (now (e .entry)))) m (contentBytes «is_event» (lent (now (frame .entry)) (now (work .entry)) (now (kinds .entry)) (now (spans .entry)) (now (ids .entry)) (now (rssis .entry)) (now (snrs .entry))) content) ⌝ }
+    ensures bytes { λ _. ⌜ Bytes (contentBytes «is_event» (lent (now (frame .entry)) (now (work .entry)) (now (kinds .entry)) (now (spans .entry)) (now (ids .entry)) (now (rssis .entry)) (now (snrs .entry))) content) ⌝ }
 {
-    match body {
-        Body::Empty => m,
-        Body::Sealed(run) => absorb(m, e, run.bytes(frame)),
-        Body::Open { held, run } => absorb_kept(
+    match content {
+        Content::Empty => m,
+        Content::Sealed(run) => absorb(m, e, run.bytes(frame)),
+        Content::Open { held, run } => absorb_kept(
             m,
             e,
             is_event,
             run.bytes(held_in(held, frame, work)),
         ),
-        Body::Items(n) => absorb_composed(m, e, is_event, n, kinds, spans, ids, rssis, snrs, work),
+        Content::Items(n) => absorb_composed(
+            m,
+            e,
+            is_event,
+            n,
+            kinds,
+            spans,
+            ids,
+            rssis,
+            snrs,
+            work,
+        ),
     }
 }

@@ -5,14 +5,14 @@ ghost use lib.ListN.{take};
 ghost use Rattle.base.specs.Answers.{bytes};
 ghost use Rattle.wire.specs.Number.{beOf};
 ghost use Rattle.fips197.specs.Aes.{aes};
-ghost use Rattle.contents.specs.Body.{lent, bodyWire};
+ghost use Rattle.contents.specs.Content.{lent, contentWire};
 ghost use Rattle.links.specs.Write.{prefixed, uplinkWire, downlinkWire, headedBy};
 ghost use Rattle.mic.specs.Mic.{fitting, signedOf, setMic, validateMic};
 ghost use Rattle.mic.specs.inner.Made.{madeOf};
 
 mod absorb;
 
-use absorb::absorb_body;
+use absorb::absorb_content;
 use base::Checked;
 use base::Limit;
 use base::Refusal;
@@ -20,7 +20,7 @@ use cipher::prepare;
 use cmac::absorb;
 use cmac::finish;
 use cmac_chain::Mac;
-use contents::Body;
+use contents::Content;
 use fields::HeaderByte;
 use keys::Aes128Key;
 use links::DownlinkPayload;
@@ -100,12 +100,12 @@ fn sign_downlink(p: DownlinkPayload, key: Aes128Key, first: u8, frame: &[u8]) ->
     }
 }
 
-// A head and an event's or a command's body behind the header byte: 29, 45, path entries, 19, 20, 5.
-fn sign_body<'a>(
+// A head and an event's or a command's content behind the header byte: 29, 45, path entries, 19, 20, 5.
+fn sign_content<'a>(
     key: Aes128Key,
     first: u8,
     head: &[u8],
-    body: Body,
+    content: Content,
     is_event: bool,
     frame: &'a [u8],
     work: &'a [u8],
@@ -115,13 +115,13 @@ fn sign_body<'a>(
     rssis: &[i16],
     snrs: &[i8],
 ) -> Made
-    ensures { λ r. ⌜ r ≡ madeOf (aes (key .0)) (fitting (prefixed first (headedBy (now (head .entry)) (bodyWire «is_event» (lent (now (frame .entry)) (now (work .entry)) (now (kinds .entry)) (now (spans .entry)) (now (ids .entry)) (now (rssis .entry)) (now (snrs .entry))) body)))) ⌝ }
+    ensures { λ r. ⌜ r ≡ madeOf (aes (key .0)) (fitting (prefixed first (headedBy (now (head .entry)) (contentWire «is_event» (lent (now (frame .entry)) (now (work .entry)) (now (kinds .entry)) (now (spans .entry)) (now (ids .entry)) (now (rssis .entry)) (now (snrs .entry))) content)))) ⌝ }
 {
-    let bad = body.refusal(is_event, frame, work, kinds, spans, ids, rssis, snrs);
+    let bad = content.refusal(is_event, frame, work, kinds, spans, ids, rssis, snrs);
     if bad != 0 {
         return Made::Refused(bad);
     }
-    let n = body.size(is_event, frame, work, kinds, spans, ids, rssis, snrs);
+    let n = content.size(is_event, frame, work, kinds, spans, ids, rssis, snrs);
     if Limit::FRAME < n {
         return Made::Refused(Refusal::FRAME_LONG);
     }
@@ -131,10 +131,10 @@ fn sign_body<'a>(
     let e = prepare(key);
     let byte = [first];
     let m = absorb(absorb(Mac::start(), &e, &byte), &e, head);
-    let all = absorb_body(
+    let all = absorb_content(
         m,
         &e,
-        body,
+        content,
         is_event,
         frame,
         work,
@@ -174,12 +174,12 @@ fn make<'a>(
             Payload::Downlink(u) => sign_downlink(u, key, b, frame),
             Payload::Event(u) => {
                 let head = u.head();
-                let body = u.events;
-                sign_body(
+                let content = u.events;
+                sign_content(
                     key,
                     b,
                     &head,
-                    body,
+                    content,
                     true,
                     frame,
                     work,
@@ -192,12 +192,12 @@ fn make<'a>(
             }
             Payload::Command(u) => {
                 let head = u.head();
-                let body = u.commands;
-                sign_body(
+                let content = u.commands;
+                sign_content(
                     key,
                     b,
                     &head,
-                    body,
+                    content,
                     false,
                     frame,
                     work,

@@ -14,9 +14,9 @@ use Rattle.fields.specs.declared.header.PayloadType.{PayloadType}
 use Rattle.fields.specs.declared.header.PayloadType.the-variants.{Uplink, Downlink, Event, Command}
 use Rattle.fields.specs.declared.header.TypeRead.the-variants.{Kind}
 use Rattle.fields.proofs.Laws.Header.{type-back}
-use Rattle.contents.specs.declared.body.Held.the-variants.{Frame as InFrame, Work as InWork}
-use Rattle.contents.specs.declared.body.Body.{Body}
-use Rattle.contents.specs.declared.body.Body.the-variants.{Empty, Sealed, Open, Items}
+use Rattle.contents.specs.declared.content.Held.the-variants.{Frame as InFrame, Work as InWork}
+use Rattle.contents.specs.declared.content.Content.{Content}
+use Rattle.contents.specs.declared.content.Content.the-variants.{Empty, Sealed, Open, Items}
 use Rattle.packets.specs.Read.{ofMesh}
 use Rattle.packets.specs.declared.mesh.Payload.{Payload}
 use Rattle.packets.specs.declared.mesh.Payload.the-variants.{Uplink as AnUplink, Downlink as ADownlink, Event as AnEvent, Command as ACommand}
@@ -26,7 +26,7 @@ use Rattle.packets.specs.declared.mesh.MeshRead.the-variants.{Mesh}
 use Rattle.packets.specs.declared.any.Packet.{Packet}
 use Rattle.packets.specs.declared.any.Packet.the-variants.{Mesh as AMesh, Lora}
 use Rattle.packets.specs.declared.any.PacketRead.the-variants.{Packet as PacketIs}
-use Rattle.numbers.specs.Numbers.{bit, bodyPlace, payloadRssi, payloadSnr, meshNumbers, meshRssi, meshSnr, numbersIn, rssiIn, snrIn, atMost, tooWide, strangeBody, bodyFrom, typedBy, kindBy, meshFrom, packetFrom}
+use Rattle.numbers.specs.Numbers.{bit, contentPlace, payloadRssi, payloadSnr, meshNumbers, meshRssi, meshSnr, numbersIn, rssiIn, snrIn, atMost, tooWide, strangeContent, contentFrom, typedBy, kindBy, meshFrom, packetFrom}
 use Rattle.numbers.proofs.Laws.{mesh-known, packet-lora, packet-mesh}
 
 -- each number within its field's width
@@ -63,7 +63,7 @@ module _ (h : MHDR) (has : Bool) (mic : ℕ) where
   ns q = meshNumbers (packet q)
 
   -- the kind and the header's type, apart from each other
-  reads : (q : Payload) (k : PayloadType) → Fits (ns q) → strangeBody (ns q) ≡ false → getD (ns q) 0 0 ≡ codeOf k
+  reads : (q : Payload) (k : PayloadType) → Fits (ns q) → strangeContent (ns q) ≡ false → getD (ns q) 0 0 ≡ codeOf k
       → meshFrom (ns q) (payloadRssi q) (payloadSnr q) ≡ typedBy (ns q) (payloadRssi q) (payloadSnr q) k (Kind (h .«payload_type»))
   unfolding meshNumbers
   reads q k f b e =
@@ -71,35 +71,35 @@ module _ (h : MHDR) (has : Bool) (mic : ℕ) where
       ∙ ap (kindBy (ns q) (payloadRssi q) (payloadSnr q)) (ap typeRead e ∙ type-back k)
       ∙ ap (typedBy (ns q) (payloadRssi q) (payloadSnr q) k) (type-back (h .«payload_type»))
 
-  strange : (q : Payload) → strangeBody (ns q) ≡ false
-  unfolding meshNumbers strangeBody
+  strange : (q : Payload) → strangeContent (ns q) ≡ false
+  unfolding meshNumbers strangeContent
   strange (AnUplink u) = refl
   strange (ADownlink u) = refl
   strange (AnEvent u) = by (u .events) where
-    by : (b : Body) → strangeBody (ns (AnEvent (record { timestamp = u .timestamp; «relay_id» = u .«relay_id»; events = b }))) ≡ false
+    by : (b : Content) → strangeContent (ns (AnEvent (record { timestamp = u .timestamp; «relay_id» = u .«relay_id»; events = b }))) ≡ false
     by Empty = refl
     by (Sealed r) = refl
     by (Open InFrame r) = refl
     by (Open InWork r) = refl
     by (Items n) = refl
   strange (ACommand u) = by (u .commands) where
-    by : (b : Body) → strangeBody (ns (ACommand (record { timestamp = u .timestamp; «relay_id» = u .«relay_id»; commands = b }))) ≡ false
+    by : (b : Content) → strangeContent (ns (ACommand (record { timestamp = u .timestamp; «relay_id» = u .«relay_id»; commands = b }))) ≡ false
     by Empty = refl
     by (Sealed r) = refl
     by (Open InFrame r) = refl
     by (Open InWork r) = refl
     by (Items n) = refl
 
-  event-body : (time relay : ℕ) (b : Body) → bodyFrom (ns (AnEvent (record { timestamp = time; «relay_id» = relay; events = b }))) ≡ b
-  unfolding meshNumbers bodyFrom
+  event-body : (time relay : ℕ) (b : Content) → contentFrom (ns (AnEvent (record { timestamp = time; «relay_id» = relay; events = b }))) ≡ b
+  unfolding meshNumbers contentFrom
   event-body time relay Empty = refl
   event-body time relay (Sealed r) = refl
   event-body time relay (Open InFrame r) = refl
   event-body time relay (Open InWork r) = refl
   event-body time relay (Items n) = refl
 
-  command-body : (time relay : ℕ) (b : Body) → bodyFrom (ns (ACommand (record { timestamp = time; «relay_id» = relay; commands = b }))) ≡ b
-  unfolding meshNumbers bodyFrom
+  command-body : (time relay : ℕ) (b : Content) → contentFrom (ns (ACommand (record { timestamp = time; «relay_id» = relay; commands = b }))) ≡ b
+  unfolding meshNumbers contentFrom
   command-body time relay Empty = refl
   command-body time relay (Sealed r) = refl
   command-body time relay (Open InFrame r) = refl

@@ -16,8 +16,8 @@ use Rattle.numbers.proofs.back.to_type.Kinds as to-type-kinds
 use Rattle.numbers.proofs.back.to_type.Reads as to-type-reads
 use Rattle.numbers.proofs.back.too_wide.Kinds as too-wide-kinds
 use Rattle.numbers.proofs.back.too_wide.Reads as too-wide-reads
-use Rattle.numbers.proofs.back.strange_body.Kinds as strange-body-kinds
-use Rattle.numbers.proofs.back.strange_body.Reads as strange-body-reads
+use Rattle.numbers.proofs.back.strange_content.Kinds as strange-content-kinds
+use Rattle.numbers.proofs.back.strange_content.Reads as strange-content-reads
 use Rattle.numbers.proofs.back.mesh_of.Kinds as mesh-of-kinds
 use Rattle.numbers.proofs.back.mesh_of.Reads as mesh-of-reads
 use Rattle.numbers.proofs.back.put_mic.Kinds as put-mic-kinds
@@ -51,8 +51,8 @@ to-type κs a x y v w p q = (p ∙ sym q, refl)
 too-wide : Fixed 1 too-wide-kinds.ps too-wide-kinds.r too-wide-reads.Post
 too-wide κs a x y v w p q = (p ∙ sym q, refl)
 
-strange-body : Fixed 1 strange-body-kinds.ps strange-body-kinds.r strange-body-reads.Post
-strange-body κs a x y v w p q = (p ∙ sym q, refl)
+strange-content : Fixed 1 strange-content-kinds.ps strange-content-kinds.r strange-content-reads.Post
+strange-content κs a x y v w p q = (p ∙ sym q, refl)
 
 mesh-of : Fixed 1 mesh-of-kinds.ps mesh-of-kinds.r mesh-of-reads.Post
 mesh-of κs a x y v w p q = (p ∙ sym q, refl)

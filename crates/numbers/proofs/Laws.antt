@@ -19,7 +19,7 @@ use Rattle.fields.specs.declared.header.HeaderByte.{HeaderByte}
 use Rattle.fields.specs.declared.header.HeaderByte.the-variants.{Byte, Refused as NoByte}
 use Rattle.fields.specs.declared.header.PayloadType.the-variants.{Uplink}
 use Rattle.fields.specs.declared.header.TypeRead.the-variants.{Kind, Refused as NoKind}
-use Rattle.contents.specs.Body.{Lent}
+use Rattle.contents.specs.Content.{Lent}
 use Rattle.links.specs.Write.{prefixed, withMic, uplinkWire}
 use Rattle.links.specs.declared.uplink.UplinkPayload.{UplinkPayload}
 use Rattle.links.proofs.Steps.{Outcome, refuses, same-frame}
@@ -32,7 +32,7 @@ use Rattle.packets.proofs.Steps.{header-refused, header-byte}
 use Rattle.packets.specs.declared.mesh.MeshRead.the-variants.{Mesh, Refused}
 use Rattle.packets.specs.declared.any.Packet.the-variants.{Lora}
 use Rattle.packets.specs.declared.any.PacketRead.the-variants.{Packet as PacketIs, Refused as NoPacket}
-use Rattle.numbers.specs.Numbers.{atMost, tooWide, strangeBody, runFrom, uplinkFrom, payloadFrom, kindBy, typedBy, meshFrom, packetFrom, ifPacket, numbersFrame}
+use Rattle.numbers.specs.Numbers.{atMost, tooWide, strangeContent, runFrom, uplinkFrom, payloadFrom, kindBy, typedBy, meshFrom, packetFrom, ifPacket, numbersFrame}
 
 pub no-type : (n : ℕ) → 3 < n → typeRead n ≡ NoKind typeLarge
 unfolding typeRead
@@ -68,7 +68,7 @@ module _ (ns : List ℕ) (r z : ℤ) (b : Bool) (e : b ≡ tooWide ns) where
     unfolding packetFrom
     packet-mesh k = simp (sym e ∙ g, ne-eqb (getD ns 0 0) 4 k)
 
-    module _ (d : Bool) (f : d ≡ strangeBody ns) where
+    module _ (d : Bool) (f : d ≡ strangeContent ns) where
       pub mesh-strange : d ≡ true → meshFrom ns r z ≡ Refused typeLarge
       unfolding meshFrom
       mesh-strange h = simp (sym e ∙ g, sym f ∙ h)
@@ -86,7 +86,7 @@ module _ (ns : List ℕ) (r z : ℤ) (b : Bool) (e : b ≡ tooWide ns) where
 
     -- an uplink: no body counts
     pub uplink-mesh : getD ns 0 0 ≡ 0 → packetFrom ns r z ≡ ofMesh (typedBy ns r z Uplink (typeRead (getD ns 1 0)))
-    unfolding strangeBody typeRead
+    unfolding strangeContent typeRead
     uplink-mesh k =
         packet-mesh (λ q. let w : _≡_ {A = ℕ} 0 4 = sym k ∙ q in omega arith)
         ∙ ap ofMesh (mesh-known false (rw k refl) refl ∙ ap (λ (n : ℕ). kindBy ns r z (typeRead n)) k)

@@ -12,9 +12,9 @@ use Rattle.fields.specs.declared.header.MHDR.{MHDR}
 use Rattle.fields.specs.declared.header.PayloadType.{PayloadType}
 use Rattle.fields.specs.declared.header.PayloadType.the-variants.{Uplink, Downlink, Event, Command}
 use Rattle.fields.specs.declared.header.HeaderRead.the-variants.{Header, Refused as NoHeader}
-use Rattle.contents.specs.declared.body.Held.the-variants.{Frame as InFrame, Work as InWork}
-use Rattle.contents.specs.declared.body.Body.{Body}
-use Rattle.contents.specs.declared.body.Body.the-variants.{Empty, Sealed, Open, Items}
+use Rattle.contents.specs.declared.content.Held.the-variants.{Frame as InFrame, Work as InWork}
+use Rattle.contents.specs.declared.content.Content.{Content}
+use Rattle.contents.specs.declared.content.Content.the-variants.{Empty, Sealed, Open, Items}
 use Rattle.links.specs.Read.{fourAt, uplinkAt, downlinkAt}
 use Rattle.links.specs.declared.uplink.UplinkRead.{UplinkRead}
 use Rattle.links.specs.declared.downlink.DownlinkRead.{DownlinkRead}
@@ -30,7 +30,7 @@ use Rattle.packets.specs.declared.mesh.MeshRead.the-variants.{Mesh, Refused}
 use Rattle.packets.specs.declared.any.Packet.the-variants.{Lora}
 use Rattle.packets.specs.declared.any.PacketRead.{PacketRead}
 use Rattle.packets.specs.declared.any.PacketRead.the-variants.{Packet as PacketIs, Refused as NoPacket}
-use Rattle.numbers.specs.Numbers.{bit, bodyPlace, stampedFields, listed, meshNumbers, meshRssi, meshSnr, numbersIn, rssiIn, snrIn, bodyRead, around}
+use Rattle.numbers.specs.Numbers.{bit, contentPlace, stampedFields, listed, meshNumbers, meshRssi, meshSnr, numbersIn, rssiIn, snrIn, bodyRead, around}
 
 -- all as it was, or the numbers of a packet
 abbrev pub Left : MeshRead → List ℕ → ℤ → ℤ → ℕ → List ℕ → ℤ → ℤ → Type 0
@@ -155,16 +155,16 @@ mesh-any p (Refused k) xs r z n ys r' z' e a = rw e a
 
 -- ---- the numbers of an event or a command
 
-three : (b : Body) → getD (bodyPlace b) 0 0 ∷ getD (bodyPlace b) 1 0 ∷ getD (bodyPlace b) 2 0 ∷ [] ≡ bodyPlace b
+three : (b : Content) → getD (contentPlace b) 0 0 ∷ getD (contentPlace b) 1 0 ∷ getD (contentPlace b) 2 0 ∷ [] ≡ contentPlace b
 three Empty = refl
 three (Sealed r) = refl
 three (Open InFrame r) = refl
 three (Open InWork r) = refl
 three (Items n) = refl
 
-pub stamped-is : (kind : ℕ) (h : MHDR) (has : Bool) (mic relay time : ℕ) (b : Body) (t f : ℕ) (p : List ℕ) → t ≡ codeOf (h .«payload_type») → f ≡ bit has
-    → p ≡ bodyPlace b
+pub stamped-is : (kind : ℕ) (h : MHDR) (has : Bool) (mic relay time : ℕ) (b : Content) (t f : ℕ) (p : List ℕ) → t ≡ codeOf (h .«payload_type») → f ≡ bit has
+    → p ≡ contentPlace b
     → kind ∷ t ∷ h .«hop_count» ∷ f ∷ mic ∷ relay ∷ 0 ∷ 0 ∷ 0 ∷ 0 ∷ 0 ∷ 0 ∷ time ∷ getD p 0 0 ∷ getD p 1 0 ∷ getD p 2 0 ∷ []
-    ≡ listed kind h has mic (stampedFields relay time) (bodyPlace b)
+    ≡ listed kind h has mic (stampedFields relay time) (contentPlace b)
 stamped-is kind h has mic relay time b t f p x y e =
     rw (x, y, e) (ap (listed kind h has mic (stampedFields relay time)) (three b))

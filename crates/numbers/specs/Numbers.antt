@@ -1,5 +1,5 @@
 -- A packet as numbers, and back. The sixteen, in their order: kind, payload_type, hop_count, has_mic, mic, relay_id, uplink_id, dr, channel,
--- frequency, tx_power, delay, timestamp, body, start, len. Beside them stand rssi and snr. Assumes nothing.
+-- frequency, tx_power, delay, timestamp, content, start, len. Beside them stand rssi and snr. Assumes nothing.
 use Prim.Native.Nat.{ℕ}
 use mathlib.Core.Bool.{Bool, true, false, not}
 use mathlib.Core.List.{List, [], _∷_, _++_}
@@ -17,10 +17,10 @@ use Rattle.fields.specs.declared.header.PayloadType.{PayloadType}
 use Rattle.fields.specs.declared.header.PayloadType.the-variants.{Uplink, Downlink, Event, Command}
 use Rattle.fields.specs.declared.header.TypeRead.{TypeRead}
 use Rattle.fields.specs.declared.header.TypeRead.the-variants.{Kind, Refused as NoKind}
-use Rattle.contents.specs.Body.{Lent}
-use Rattle.contents.specs.declared.body.Held.the-variants.{Frame as InFrame, Work as InWork}
-use Rattle.contents.specs.declared.body.Body.{Body}
-use Rattle.contents.specs.declared.body.Body.the-variants.{Empty, Sealed, Open, Items}
+use Rattle.contents.specs.Content.{Lent}
+use Rattle.contents.specs.declared.content.Held.the-variants.{Frame as InFrame, Work as InWork}
+use Rattle.contents.specs.declared.content.Content.{Content}
+use Rattle.contents.specs.declared.content.Content.the-variants.{Empty, Sealed, Open, Items}
 use Rattle.links.specs.Read.{uplinkAt, downlinkAt}
 use Rattle.links.specs.declared.uplink.UplinkPayload.{UplinkPayload}
 use Rattle.links.specs.declared.downlink.DownlinkPayload.{DownlinkPayload}
@@ -45,19 +45,19 @@ abbrev pub bit : Bool → ℕ
 bit true = 1
 bit false = 0
 
--- body, start and len
-abbrev pub bodyPlace : Body → List ℕ
-bodyPlace Empty = 0 ∷ 0 ∷ 0 ∷ []
-bodyPlace (Sealed r) = 1 ∷ r .start ∷ r .len ∷ []
-bodyPlace (Open InFrame r) = 2 ∷ r .start ∷ r .len ∷ []
-bodyPlace (Open InWork r) = 3 ∷ r .start ∷ r .len ∷ []
-bodyPlace (Items n) = 4 ∷ 0 ∷ n ∷ []
+-- content, start and len
+abbrev pub contentPlace : Content → List ℕ
+contentPlace Empty = 0 ∷ 0 ∷ 0 ∷ []
+contentPlace (Sealed r) = 1 ∷ r .start ∷ r .len ∷ []
+contentPlace (Open InFrame r) = 2 ∷ r .start ∷ r .len ∷ []
+contentPlace (Open InWork r) = 3 ∷ r .start ∷ r .len ∷ []
+contentPlace (Items n) = 4 ∷ 0 ∷ n ∷ []
 
 abbrev pub payloadPlace : Payload → List ℕ
 payloadPlace (AnUplink u) = 0 ∷ u .«phy_payload» .start ∷ u .«phy_payload» .len ∷ []
 payloadPlace (ADownlink u) = 0 ∷ u .«phy_payload» .start ∷ u .«phy_payload» .len ∷ []
-payloadPlace (AnEvent u) = bodyPlace (u .events)
-payloadPlace (ACommand u) = bodyPlace (u .commands)
+payloadPlace (AnEvent u) = contentPlace (u .events)
+payloadPlace (ACommand u) = contentPlace (u .commands)
 
 -- relay_id, uplink_id, dr, channel, frequency, tx_power, delay, timestamp
 abbrev pub stampedFields : ℕ → ℕ → List ℕ
@@ -143,15 +143,15 @@ tooWide ns =
     pick (ltb micMost (getD ns 4 0)) true
     (pick (ltb relayIdMost (getD ns 5 0)) true (pick (ltb channelMost (getD ns 8 0)) true (ltb timestampMost (getD ns 12 0))))
 
--- a body code over 4 of an event or a command; of other kinds it does not count
-unfoldable pub strangeBody : List ℕ → Bool
-strangeBody ns = pick (ltb (getD ns 0 0) 2) false (ltb 4 (getD ns 13 0))
+-- a content code over 4 of an event or a command; of other kinds it does not count
+unfoldable pub strangeContent : List ℕ → Bool
+strangeContent ns = pick (ltb (getD ns 0 0) 2) false (ltb 4 (getD ns 13 0))
 
 abbrev pub runFrom : List ℕ → Run
 runFrom ns = record { start = getD ns 14 0; len = getD ns 15 0 }
 
-unfoldable pub bodyFrom : List ℕ → Body
-bodyFrom ns =
+unfoldable pub contentFrom : List ℕ → Content
+contentFrom ns =
     pick (eqb (getD ns 13 0) 0) Empty
     (pick (eqb (getD ns 13 0) 1) (Sealed (runFrom ns))
     (pick (eqb (getD ns 13 0) 2) (Open InFrame (runFrom ns))
@@ -189,9 +189,9 @@ abbrev pub payloadFrom : List ℕ → ℤ → ℤ → PayloadType → Payload
 payloadFrom ns rssi snr Uplink = AnUplink (uplinkFrom ns rssi snr)
 payloadFrom ns rssi snr Downlink = ADownlink (downlinkFrom ns)
 payloadFrom ns rssi snr Event =
-    AnEvent (record { timestamp = atMost 4294967295 (getD ns 12 0); «relay_id» = atMost 4294967295 (getD ns 5 0); events = bodyFrom ns })
+    AnEvent (record { timestamp = atMost 4294967295 (getD ns 12 0); «relay_id» = atMost 4294967295 (getD ns 5 0); events = contentFrom ns })
 payloadFrom ns rssi snr Command =
-    ACommand (record { timestamp = atMost 4294967295 (getD ns 12 0); «relay_id» = atMost 4294967295 (getD ns 5 0); commands = bodyFrom ns })
+    ACommand (record { timestamp = atMost 4294967295 (getD ns 12 0); «relay_id» = atMost 4294967295 (getD ns 5 0); commands = contentFrom ns })
 
 abbrev pub typedBy : List ℕ → ℤ → ℤ → PayloadType → TypeRead → MeshRead
 typedBy ns rssi snr kind (NoKind n) = Refused n
@@ -206,16 +206,16 @@ abbrev pub kindBy : List ℕ → ℤ → ℤ → TypeRead → MeshRead
 kindBy ns rssi snr (NoKind n) = Refused n
 kindBy ns rssi snr (Kind kind) = typedBy ns rssi snr kind (typeRead (getD ns 1 0))
 
--- 29 of what is too wide, of the body, the kind and the header's type
+-- 29 of what is too wide, of the content, the kind and the header's type
 unfoldable pub meshFrom : List ℕ → ℤ → ℤ → MeshRead
 meshFrom ns rssi snr =
-    pick (tooWide ns) (Refused typeLarge) (pick (strangeBody ns) (Refused typeLarge) (kindBy ns rssi snr (typeRead (getD ns 0 0))))
+    pick (tooWide ns) (Refused typeLarge) (pick (strangeContent ns) (Refused typeLarge) (kindBy ns rssi snr (typeRead (getD ns 0 0))))
 
 unfoldable pub packetFrom : List ℕ → ℤ → ℤ → PacketRead
 packetFrom ns rssi snr =
     pick (tooWide ns) (NoPacket typeLarge) (pick (eqb (getD ns 0 0) 4) (PacketIs (Lora (runFrom ns))) (ofMesh (meshFrom ns rssi snr)))
 
--- ---- the numbers with another MIC, and with another body, start and len; the others stay as they are
+-- ---- the numbers with another MIC, and with another content, start and len; the others stay as they are
 
 abbrev pub micSet : List ℕ → ℕ → List ℕ
 micSet ns mic = set (set ns 3 1) 4 mic

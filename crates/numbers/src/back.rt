@@ -1,11 +1,11 @@
 // The packet that numbers stand for, and what signing, sealing and opening change of them.
 ghost use mathlib.Core.Path.{_≡_};
 ghost use Rattle.fields.specs.Header.{typeRead};
-ghost use Rattle.numbers.specs.Numbers.{payloadPlace, atMost, tooWide, strangeBody, runFrom, bodyFrom, uplinkFrom, downlinkFrom, payloadFrom, meshFrom, packetFrom, micSet, placeSet};
+ghost use Rattle.numbers.specs.Numbers.{payloadPlace, atMost, tooWide, strangeContent, runFrom, contentFrom, uplinkFrom, downlinkFrom, payloadFrom, meshFrom, packetFrom, micSet, placeSet};
 use crate::Code;
-use crate::read::body_place;
+use crate::read::content_place;
 use base::Refusal;
-use contents::Body;
+use contents::Content;
 use contents::Held;
 use events::CommandPayload;
 use events::EventPayload;
@@ -80,9 +80,9 @@ pub fn too_wide(numbers: &[u64; 16]) -> bool
     (Timestamp::MOST as u64) < numbers[12]
 }
 
-// A body code of an event or a command that is none; of other kinds it does not count.
-pub fn strange_body(numbers: &[u64; 16]) -> bool
-    ensures { λ r. ⌜ r ≡ strangeBody (now (numbers .entry)) ⌝ }
+// A content code of an event or a command that is none; of other kinds it does not count.
+pub fn strange_content(numbers: &[u64; 16]) -> bool
+    ensures { λ r. ⌜ r ≡ strangeContent (now (numbers .entry)) ⌝ }
 {
     if numbers[0] < PayloadType::EVENT as u64 {
         return false;
@@ -101,30 +101,30 @@ fn run_of(numbers: &[u64; 16]) -> Run
     }
 }
 
-fn body_of(numbers: &[u64; 16]) -> Body
-    ensures { λ r. ⌜ r ≡ bodyFrom (now (numbers .entry)) ⌝ }
+fn content_of(numbers: &[u64; 16]) -> Content
+    ensures { λ r. ⌜ r ≡ contentFrom (now (numbers .entry)) ⌝ }
 {
     let run = run_of(numbers);
-    let body = numbers[13];
-    if body == Code::EMPTY as u64 {
-        return Body::Empty;
+    let content = numbers[13];
+    if content == Code::EMPTY as u64 {
+        return Content::Empty;
     }
-    if body == Code::SEALED as u64 {
-        return Body::Sealed(run);
+    if content == Code::SEALED as u64 {
+        return Content::Sealed(run);
     }
-    if body == Code::OPEN_IN_FRAME as u64 {
-        return Body::Open {
+    if content == Code::OPEN_IN_FRAME as u64 {
+        return Content::Open {
             held: Held::Frame,
             run,
         };
     }
-    if body == Code::OPEN_IN_WORK as u64 {
-        return Body::Open {
+    if content == Code::OPEN_IN_WORK as u64 {
+        return Content::Open {
             held: Held::Work,
             run,
         };
     }
-    Body::Items(run.len)
+    Content::Items(run.len)
 }
 
 pub(crate) fn uplink_of(numbers: &[u64; 16], rssi: i16, snr: i8) -> UplinkPayload
@@ -168,26 +168,26 @@ fn payload_of(kind: PayloadType, numbers: &[u64; 16], rssi: i16, snr: i8) -> Pay
         PayloadType::Event => Payload::Event(EventPayload {
             timestamp: to_u32(numbers[12]),
             relay_id: to_u32(numbers[5]),
-            events: body_of(numbers),
+            events: content_of(numbers),
         }),
         PayloadType::Command => Payload::Command(CommandPayload {
             timestamp: to_u32(numbers[12]),
             relay_id: to_u32(numbers[5]),
-            commands: body_of(numbers),
+            commands: content_of(numbers),
         }),
     }
 }
 
 // ---- the packet
 
-// 29 where a number is too wide, the kind or the header's type is over 3, or the body of an event or a command is none.
+// 29 where a number is too wide, the kind or the header's type is over 3, or the content of an event or a command is none.
 pub fn mesh_of(numbers: &[u64; 16], rssi: i16, snr: i8) -> MeshRead
     ensures { λ r. ⌜ r ≡ meshFrom (now (numbers .entry)) rssi snr ⌝ }
 {
     if too_wide(numbers) {
         return MeshRead::Refused(Refusal::TYPE_LARGE);
     }
-    if strange_body(numbers) {
+    if strange_content(numbers) {
         return MeshRead::Refused(Refusal::TYPE_LARGE);
     }
     match to_type(numbers[0]) {
@@ -223,7 +223,7 @@ pub(crate) fn packet_of(numbers: &[u64; 16], rssi: i16, snr: i8) -> PacketRead
     }
 }
 
-// ---- in place: has_mic and mic, and body, start and len; the others stay as they are
+// ---- in place: has_mic and mic, and content, start and len; the others stay as they are
 
 pub fn put_mic(mic: u32, numbers: &mut [u64; 16])
     ensures { λ _. ⌜ now (numbers .exit) ≡ micSet (now (numbers .entry)) mic ⌝ }
@@ -246,11 +246,11 @@ fn place_of(payload: Payload) -> [u64; 3]
         }
         Payload::Event(u) => {
             let b = u.events;
-            body_place(b)
+            content_place(b)
         }
         Payload::Command(u) => {
             let b = u.commands;
-            body_place(b)
+            content_place(b)
         }
     }
 }

@@ -1,5 +1,5 @@
 // A packet as sixteen numbers and, beside them, rssi and snr, for callers from C, where no enum can stand. specs/Numbers.antt has their order.
-// Which of them count goes by the kind and the body; what does not is 0 where a packet is read, and is not looked at where one is written.
+// Which of them count goes by the kind and the content; what does not is 0 where a packet is read, and is not looked at where one is written.
 ghost use mathlib.Core.Path.{_≡_};
 ghost use Rattle.numbers.specs.Numbers.{bit};
 
@@ -10,7 +10,7 @@ mod write;
 pub use back::mesh_of;
 pub use back::put_mic;
 pub use back::put_place;
-pub use back::strange_body;
+pub use back::strange_content;
 pub use back::to_type;
 pub use back::to_u8;
 pub use back::to_u16;
@@ -28,7 +28,7 @@ impl Code {
     // A kind: a LoRa frame. The others are those of `PayloadType`.
     pub const LORA: u8 = 4;
 
-    // What a body is: nothing, sealed, open in the frame or in the work buffer, or items of the lent lists.
+    // What a content is: nothing, sealed, open in the frame or in the work buffer, or items of the lent lists.
     pub const EMPTY: u8 = 0;
 
     pub const SEALED: u8 = 1;

@@ -4,12 +4,12 @@ ghost use Rattle.base.specs.Answers.{numberIn, leftBy};
 ghost use Rattle.fields.specs.Header.{typeRead};
 ghost use Rattle.packets.specs.Read.{packetSays, packetOf, meshSays, meshOf};
 ghost use Rattle.packets.specs.declared.mesh.Payload.the-variants.{Uplink, Downlink};
-ghost use Rattle.numbers.specs.Numbers.{bodyPlace, stampedFields, listed, meshNumbers, meshRssi, meshSnr, numbersIn, rssiIn, snrIn, bodyRead, around, bareBy};
+ghost use Rattle.numbers.specs.Numbers.{contentPlace, stampedFields, listed, meshNumbers, meshRssi, meshSnr, numbersIn, rssiIn, snrIn, bodyRead, around, bareBy};
 use crate::Code;
 use crate::from_bool;
 use base::Limit;
 use base::Refusal;
-use contents::Body;
+use contents::Content;
 use contents::Held;
 use events::CommandPayload;
 use events::CommandRead;
@@ -80,18 +80,18 @@ fn downlink_numbers(mhdr: MHDR, has_mic: bool, mic: u32, u: DownlinkPayload) -> 
     ]
 }
 
-// Body, start and len.
-pub(crate) fn body_place(b: Body) -> [u64; 3]
-    ensures { λ r. ⌜ r ≡ bodyPlace b ⌝ }
+// Content, start and len.
+pub(crate) fn content_place(b: Content) -> [u64; 3]
+    ensures { λ r. ⌜ r ≡ contentPlace b ⌝ }
 {
     match b {
-        Body::Empty => [Code::EMPTY as u64, 0, 0],
-        Body::Sealed(run) => [Code::SEALED as u64, run.start as u64, run.len as u64],
-        Body::Open { held, run } => match held {
+        Content::Empty => [Code::EMPTY as u64, 0, 0],
+        Content::Sealed(run) => [Code::SEALED as u64, run.start as u64, run.len as u64],
+        Content::Open { held, run } => match held {
             Held::Frame => [Code::OPEN_IN_FRAME as u64, run.start as u64, run.len as u64],
             Held::Work => [Code::OPEN_IN_WORK as u64, run.start as u64, run.len as u64],
         },
-        Body::Items(n) => [Code::ITEMS as u64, 0, n as u64],
+        Content::Items(n) => [Code::ITEMS as u64, 0, n as u64],
     }
 }
 
@@ -103,12 +103,12 @@ fn stamped_numbers(
     mic: u32,
     timestamp: u32,
     relay_id: u32,
-    b: Body,
+    b: Content,
 ) -> [u64; 16]
-    ensures { λ r. ⌜ r ≡ listed kind mhdr «has_mic» mic (stampedFields «relay_id» timestamp) (bodyPlace b) ⌝ }
+    ensures { λ r. ⌜ r ≡ listed kind mhdr «has_mic» mic (stampedFields «relay_id» timestamp) (contentPlace b) ⌝ }
 {
     let t = mhdr.payload_type;
-    let place = body_place(b);
+    let place = content_place(b);
     [
         kind as u64,
         t.to_byte() as u64,

@@ -1,7 +1,7 @@
 // The packet that numbers stand for, written.
 ghost use mathlib.Core.Path.{_≡_};
 ghost use Rattle.base.specs.Answers.{answerOf, outOf};
-ghost use Rattle.contents.specs.Body.{lent};
+ghost use Rattle.contents.specs.Content.{lent};
 ghost use Rattle.links.specs.Write.{uplinkWire, prefixed, withMic};
 ghost use Rattle.numbers.specs.Numbers.{numbersFrame};
 use crate::back::packet_of;

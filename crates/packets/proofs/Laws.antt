@@ -8,8 +8,8 @@ use Rattle.base.specs.Numbers.{typeLarge}
 use Rattle.base.specs.Answers.{Frame, bytes, refused}
 use Rattle.base.proofs.Answers.{is-refused, not-refused}
 use Rattle.fields.specs.Header.{headerByte}
-use Rattle.contents.specs.Body.{Lent}
-use Rattle.contents.proofs.Laws.{known-body, no-lists, body-29}
+use Rattle.contents.specs.Content.{Lent}
+use Rattle.contents.proofs.Laws.{known-content, no-lists, content-29}
 use Rattle.events.specs.Write.{eventWire, commandWire, stampedOfEvent, stampedOfCommand}
 use Rattle.events.proofs.Laws.{stamped-fine}
 use Rattle.packets.specs.Write.{payloadWire, payloadKinds, kindsIn, behind, messageOf}
@@ -30,8 +30,8 @@ pub known-payload : (l : Lent) (q : Payload) (w : List ℕ) → payloadWire l q 
 unfolding payloadWire payloadKinds eventWire commandWire
 known-payload l (Uplink p) w e = refl
 known-payload l (Downlink p) w e = refl
-known-payload l (Event p) w e = known-body true l (p .events) (stamped-fine true l (stampedOfEvent p) w e)
-known-payload l (Command p) w e = known-body false l (p .commands) (stamped-fine false l (stampedOfCommand p) w e)
+known-payload l (Event p) w e = known-content true l (p .events) (stamped-fine true l (stampedOfEvent p) w e)
+known-payload l (Command p) w e = known-content false l (p .commands) (stamped-fine false l (stampedOfCommand p) w e)
 
 -- so that what stands before the MIC is header byte and body, where the body has bytes or no lists are lent
 pub message-is : (l : Lent) (p : MeshPacket) (w : List ℕ) → payloadWire l (p .payload) ≡ bytes w → messageOf l p ≡ behind (headerByte (p .mhdr)) (payloadWire l (p .payload))
@@ -53,5 +53,5 @@ pub strange-29 : (kinds spans : List (List ℕ)) (q : Payload) → (payloadKinds
 unfolding payloadKinds
 strange-29 kinds spans (Uplink p) h = absurd (h refl)
 strange-29 kinds spans (Downlink p) h = absurd (h refl)
-strange-29 kinds spans (Event p) h = body-29 true kinds spans (p .events) h
-strange-29 kinds spans (Command p) h = body-29 false kinds spans (p .commands) h
+strange-29 kinds spans (Event p) h = content-29 true kinds spans (p .events) h
+strange-29 kinds spans (Command p) h = content-29 false kinds spans (p .commands) h

@@ -9,7 +9,7 @@ use Rattle.base.specs.declared.Written.the-variants.{Refused}
 use Rattle.fields.specs.Header.{headerByte}
 use Rattle.fields.specs.declared.header.HeaderByte.{HeaderByte}
 use Rattle.fields.specs.declared.header.HeaderByte.the-variants.{Byte, Refused as NoByte}
-use Rattle.contents.specs.Body.{Lent}
+use Rattle.contents.specs.Content.{Lent}
 use Rattle.wire.specs.Run.{runRefusal, runBytes}
 use Rattle.wire.specs.declared.run.Run.{Run}
 use Rattle.links.specs.Write.{prefixed, withMic}

@@ -12,7 +12,7 @@ use Rattle.fields.specs.Header.{headerByte}
 use Rattle.fields.specs.declared.header.HeaderByte.{HeaderByte}
 use Rattle.fields.specs.declared.header.HeaderByte.the-variants.{Byte, Refused as NoByte}
 use Rattle.wire.specs.Run.{runRefusal, runBytes}
-use Rattle.contents.specs.Body.{Lent, bodyKinds}
+use Rattle.contents.specs.Content.{Lent, contentKinds}
 use Rattle.links.specs.Write.{prefixed, withMic, uplinkWire, downlinkWire}
 use Rattle.events.specs.Write.{eventWire, commandWire}
 use Rattle.wire.specs.declared.run.Run.{Run}
@@ -33,8 +33,8 @@ payloadWire l (Command p) = commandWire l p
 unfoldable pub payloadKinds : List (List ℕ) → List (List ℕ) → Payload → ℕ
 payloadKinds kinds spans (Uplink p) = 0
 payloadKinds kinds spans (Downlink p) = 0
-payloadKinds kinds spans (Event p) = bodyKinds true kinds spans (p .events)
-payloadKinds kinds spans (Command p) = bodyKinds false kinds spans (p .commands)
+payloadKinds kinds spans (Event p) = contentKinds true kinds spans (p .events)
+payloadKinds kinds spans (Command p) = contentKinds false kinds spans (p .commands)
 
 abbrev pub kindsIn : Lent → MeshPacket → ℕ
 kindsIn l p = payloadKinds (l .lists .kinds) (l .lists .spans) (p .payload)

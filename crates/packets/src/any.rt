@@ -1,7 +1,7 @@
 // Any frame: a mesh frame where the first three bits are 111, and otherwise a LoRa frame, which is kept as it is.
 ghost use mathlib.Core.Path.{_≡_};
 ghost use Rattle.base.specs.Answers.{answerOf, outOf};
-ghost use Rattle.contents.specs.Body.{lent};
+ghost use Rattle.contents.specs.Content.{lent};
 ghost use Rattle.packets.specs.Read.{packetOf};
 ghost use Rattle.packets.specs.Write.{loraFrame, packetFrame};
 use crate::mesh::MeshPacket;

@@ -4,7 +4,7 @@ ghost use mathlib.Core.Path.{_≡_};
 ghost use Rattle.base.specs.Answers.{answerOf, outOf};
 ghost use Rattle.packets.specs.Read.{payloadAt, meshOf};
 ghost use Rattle.packets.specs.Write.{payloadKinds, meshFrame};
-ghost use Rattle.contents.specs.Body.{lent};
+ghost use Rattle.contents.specs.Content.{lent};
 use base::Limit;
 use base::Refusal;
 use base::Written;

@@ -14,9 +14,9 @@ use Rattle.base.specs.Pick.{pick}
 use Rattle.base.specs.Numbers.{outputShort, cacheMost}
 use Rattle.base.specs.Answers.{Answer, value, number, Frame, bytes, refused, answerOf, outOf, writtenSays, checkedOf, checkedSays, leftBy}
 use Rattle.base.proofs.Answers.{out-length}
-use Rattle.contents.specs.Body.{Lent}
-use Rattle.contents.specs.declared.body.Body.{Body}
-use Rattle.contents.specs.declared.body.Body.the-variants.{Empty, Sealed, Open, Items}
+use Rattle.contents.specs.Content.{Lent}
+use Rattle.contents.specs.declared.content.Content.{Content}
+use Rattle.contents.specs.declared.content.Content.the-variants.{Empty, Sealed, Open, Items}
 use Rattle.fields.specs.declared.path.RelayPath.{RelayPath}
 use Rattle.base.specs.declared.Written.{Written}
 use Rattle.base.specs.declared.Written.the-variants.{Bytes, Refused}
@@ -29,8 +29,8 @@ use Rattle.packets.specs.declared.mesh.MeshPacket.{MeshPacket}
 use Rattle.sealing.specs.Open.{openedBy, sealWire, decryptOf, workAfter, Told, openedSays}
 use Rattle.sealing.specs.Seal.{eventSeal, eventSealed, commandSeal, commandSealed, eventOpened, commandOpened}
 use Rattle.sealing.specs.Mesh.{ofEventSealed, ofCommandSealed, sealOf, meshSealed, ofEventOpened, ofCommandOpened, meshDecrypted, meshWork, meshOpenedSays}
-use Rattle.sealing.specs.declared.body.Opened.{Opened}
-use Rattle.sealing.specs.declared.body.Opened.the-variants as opened
+use Rattle.sealing.specs.declared.content.Opened.{Opened}
+use Rattle.sealing.specs.declared.content.Opened.the-variants as opened
 use Rattle.heartbeats.specs.Heartbeat.{beatRefusal, beatOf, pathAfter, beatSays}
 use Rattle.cache.specs.Cache.{has, addSays, packOf}
 use Rattle.cache.specs.inner.Ring.{ringCount, addedOf}
@@ -86,7 +86,7 @@ opened-by ev (bytes c) w n e = by (ltb (length w) (length c)) refl where
   by true q = simp q
   by false q = absurd (never _ n (simp q at e))
 
-pub refused-opening-changes-nothing : (key : List ℕ) (ev : Bool) (relay time : ℕ) (b : Body) (f w : List ℕ) (n : ℕ)
+pub refused-opening-changes-nothing : (key : List ℕ) (ev : Bool) (relay time : ℕ) (b : Content) (f w : List ℕ) (n : ℕ)
     → openedSays (decryptOf key ev relay time b f w) ≡ number n → workAfter key ev relay time b f w ≡ w
 unfolding decryptOf workAfter
 refused-opening-changes-nothing key ev relay time Empty f w n e = refl
@@ -97,12 +97,12 @@ refused-opening-changes-nothing key ev relay time (Items k) f w n e = refl
 event-opened-by : (p : MeshPacket) (u : EventPayload) (o : Opened) (n : ℕ) → meshOpenedSays (ofEventOpened p (eventOpened u o)) ≡ number n → openedSays o ≡ number n
 event-opened-by p u (opened.Opened b k) n e = absurd (never _ n e)
 event-opened-by p u opened.AlreadyOpen n e = absurd (never _ n e)
-event-opened-by p u (opened.Refused k) n e = let q : k ≡ n = cc in ap {B = Answer (Told Body)} (λ (m : ℕ). number m) q
+event-opened-by p u (opened.Refused k) n e = let q : k ≡ n = cc in ap {B = Answer (Told Content)} (λ (m : ℕ). number m) q
 
 command-opened-by : (p : MeshPacket) (u : CommandPayload) (o : Opened) (n : ℕ) → meshOpenedSays (ofCommandOpened p (commandOpened u o)) ≡ number n → openedSays o ≡ number n
 command-opened-by p u (opened.Opened b k) n e = absurd (never _ n e)
 command-opened-by p u opened.AlreadyOpen n e = absurd (never _ n e)
-command-opened-by p u (opened.Refused k) n e = let q : k ≡ n = cc in ap {B = Answer (Told Body)} (λ (m : ℕ). number m) q
+command-opened-by p u (opened.Refused k) n e = let q : k ≡ n = cc in ap {B = Answer (Told Content)} (λ (m : ℕ). number m) q
 
 -- the same of a packet
 pub refused-packet-opening-changes-nothing : (key : List ℕ) (p : MeshPacket) (q : Payload) (f w : List ℕ) (n : ℕ)

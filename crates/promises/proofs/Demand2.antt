@@ -25,7 +25,7 @@ use Rattle.fields.specs.declared.header.PayloadType.the-variants.{Uplink, Downl
 use Rattle.items.specs.Items.{openingOf}
 use Rattle.items.proofs.Laws.{bytes-sum}
 use Rattle.composed_items.specs.Composed.{Lists}
-use Rattle.contents.specs.Body.{Lent, bodyOf, bodyBytes, framed}
+use Rattle.contents.specs.Content.{Lent, contentOf, contentBytes, framed}
 use Rattle.links.specs.Write.{downlinkHead}
 use Rattle.links.specs.Read.{heard}
 use Rattle.links.specs.declared.uplink.UplinkPayload.{UplinkPayload}
@@ -125,13 +125,13 @@ module _ (l : Lent) (w : List ℕ) (p : MeshPacket) (written : meshFrame l p ≡
   downlink-written-then-read u k t r = let b = downlink-back l w p written mic u k t r in (b .0, b .1, ap meshSays (b .2), b .3)
 
   pub event-written-then-read : (u : EventPayload) → p .payload ≡ payload.Event u → p .mhdr .«payload_type» ≡ Event → u .timestamp < 4294967296 → u .«relay_id» < 4294967296
-      → (meshSays (meshOf w) ≡ value (carrying p (payload.Event (record { timestamp = u .timestamp; «relay_id» = u .«relay_id»; events = bodyOf 9 (length (bodyBytes true l (u .events))) }))))
-      × (runBytes w (runAt 9 (length (bodyBytes true l (u .events)))) ≡ bodyBytes true l (u .events))
+      → (meshSays (meshOf w) ≡ value (carrying p (payload.Event (record { timestamp = u .timestamp; «relay_id» = u .«relay_id»; events = contentOf 9 (length (contentBytes true l (u .events))) }))))
+      × (runBytes w (runAt 9 (length (contentBytes true l (u .events)))) ≡ contentBytes true l (u .events))
   event-written-then-read u k t s r = let b = event-back l w p written mic u k t s r in (ap meshSays (b .0), b .1)
 
   pub command-written-then-read : (u : CommandPayload) → p .payload ≡ payload.Command u → p .mhdr .«payload_type» ≡ Command → u .timestamp < 4294967296 → u .«relay_id» < 4294967296
-      → (meshSays (meshOf w) ≡ value (carrying p (payload.Command (record { timestamp = u .timestamp; «relay_id» = u .«relay_id»; commands = bodyOf 9 (length (bodyBytes false l (u .commands))) }))))
-      × (runBytes w (runAt 9 (length (bodyBytes false l (u .commands)))) ≡ bodyBytes false l (u .commands))
+      → (meshSays (meshOf w) ≡ value (carrying p (payload.Command (record { timestamp = u .timestamp; «relay_id» = u .«relay_id»; commands = contentOf 9 (length (contentBytes false l (u .commands))) }))))
+      × (runBytes w (runAt 9 (length (contentBytes false l (u .commands)))) ≡ contentBytes false l (u .commands))
   command-written-then-read u k t s r = let b = command-back l w p written mic u k t s r in (ap meshSays (b .0), b .1)
 
 -- a LoRa frame, unless its first byte would make it a mesh frame
@@ -164,11 +164,11 @@ sealed-twice = seal-twice
 -- what is sealed opens to what was sealed, under the same key, in a work buffer k
 module _ (key : List ℕ) (l : Lent) (w rest : List ℕ) (x : Lists) (k : List ℕ) where
   pub event-sealed-then-opened : (u : EventPayload) → eventSeal key l u ≡ bytes w
-      → openedSays (decryptOf key true (u .«relay_id») (u .timestamp) (bodyOf 0 (length w)) (w ++ rest) k) ≡ openedSays (openedBy true (bytes (bodyBytes true l (u .events))) k)
+      → openedSays (decryptOf key true (u .«relay_id») (u .timestamp) (contentOf 0 (length w)) (w ++ rest) k) ≡ openedSays (openedBy true (bytes (contentBytes true l (u .events))) k)
   event-sealed-then-opened u e = ap openedSays (sealed.event-opened key l w rest x u k e)
 
   pub command-sealed-then-opened : (u : CommandPayload) → commandSeal key l u ≡ bytes w
-      → openedSays (decryptOf key false (u .«relay_id») (u .timestamp) (bodyOf 0 (length w)) (w ++ rest) k) ≡ openedSays (openedBy false (bytes (bodyBytes false l (u .commands))) k)
+      → openedSays (decryptOf key false (u .«relay_id») (u .timestamp) (contentOf 0 (length w)) (w ++ rest) k) ≡ openedSays (openedBy false (bytes (contentBytes false l (u .commands))) k)
   command-sealed-then-opened u e = ap openedSays (sealed.command-opened key l w rest x u k e)
 
 -- ---- items

@@ -22,9 +22,9 @@ use Rattle.fields.specs.declared.header.PayloadType.the-variants as type
 use Rattle.fields.specs.declared.header.TypeRead.{TypeRead}
 use Rattle.fields.specs.declared.header.TypeRead.the-variants.{Kind, Refused as NoKind}
 use Rattle.items.specs.declared.count.Opening.{Opening}
-use Rattle.contents.specs.Body.{Lent}
-use Rattle.contents.specs.declared.body.Body.{Body}
-use Rattle.contents.specs.declared.body.Body.the-variants.{Empty, Sealed, Open, Items}
+use Rattle.contents.specs.Content.{Lent}
+use Rattle.contents.specs.declared.content.Content.{Content}
+use Rattle.contents.specs.declared.content.Content.the-variants.{Empty, Sealed, Open, Items}
 use Rattle.links.specs.Read.{uplinkAt, downlinkAt, uplinkSays, downlinkSays}
 use Rattle.links.specs.Write.{limitedOf}
 use Rattle.links.specs.declared.uplink.UplinkRead.{UplinkRead}
@@ -54,8 +54,8 @@ use Rattle.packets.specs.declared.any.PacketRead.the-variants as packet
 use Rattle.sealing.specs.Open.{openedBy, sealWire, decryptOf, workAfter, Told, told, wasOpen, openedSays}
 use Rattle.sealing.specs.Seal.{eventOpened, commandOpened}
 use Rattle.sealing.specs.Mesh.{sealOf, meshSealed, ofEventOpened, ofCommandOpened, meshDecrypted, meshWork, meshDecoded, meshOpenedSays}
-use Rattle.sealing.specs.declared.body.Opened.{Opened}
-use Rattle.sealing.specs.declared.body.Opened.the-variants as opened
+use Rattle.sealing.specs.declared.content.Opened.{Opened}
+use Rattle.sealing.specs.declared.content.Opened.the-variants as opened
 use Rattle.sealing.specs.declared.mesh.MeshOpened.the-variants.{Refused as NotOpened}
 use Rattle.mic.specs.Mic.{setMic, validateMic, validSays}
 use Rattle.mic.specs.declared.Validated.the-variants.{Refused as NotValidated}
@@ -63,7 +63,7 @@ use Rattle.hops.specs.Hops.{leaves}
 use Rattle.cache.specs.Cache.{addSays}
 use Rattle.cache.specs.declared.ring.CacheAnswer.the-variants.{Refused as NotAdded}
 use Rattle.cache_words.specs.inner.Packed.{clearAnswer, clearWords}
-use Rattle.numbers.specs.Numbers.{bodyRead, around, bareBy, tooWide, strangeBody, typedBy, kindBy, meshFrom, packetFrom, ifPacket, numbersFrame, runFrom}
+use Rattle.numbers.specs.Numbers.{bodyRead, around, bareBy, tooWide, strangeContent, typedBy, kindBy, meshFrom, packetFrom, ifPacket, numbersFrame, runFrom}
 use Rattle.mesh_c.specs.Face.{headerByteBy, ifMesh, numbersBody, numbersSigned, numbersValid, numbersSealed, numbersSeal, numbersDecrypted, numbersWork, numbersDecoded, openedNumber, countsLeft, openedLeft, recordWide, recordFrom, answerBy, wordsBy, cacheAnswer, cacheWords}
 use Rattle.promises.specs.Said.{Accepts, Numbered}
 use Rattle.promises.proofs.Demand1.{refused-writes-nothing, refused-edit-changes-nothing, refused-clear-changes-nothing, refused-add-changes-no-word, refused-sealing-writes-nothing}
@@ -108,7 +108,7 @@ opened-left ev (bytes c) w h = by (ltb (length w) (length c)) refl where
   by true q = simp q
   by false q = absurd (h (simp q))
 
-body-left : (key : List ℕ) (ev : Bool) (relay time : ℕ) (b : Body) (f w : List ℕ)
+body-left : (key : List ℕ) (ev : Bool) (relay time : ℕ) (b : Content) (f w : List ℕ)
     → (openedNumber (openedSays (decryptOf key ev relay time b f w)) ≡ 0 → ⊥) → workAfter key ev relay time b f w ≡ w
 unfolding decryptOf workAfter
 body-left key ev relay time Empty f w h = refl
@@ -250,7 +250,7 @@ module _ (ns : List ℕ) (rssi snr : ℤ) where
   unfolding meshFrom
   mesh-numbered =
       picked meshSays (tooWide ns) _ _ (omega arith)
-      (picked meshSays (strangeBody ns) _ _ (omega arith) (by (typeRead (getD ns 0 0)) (type-numbered (getD ns 0 0)))) where
+      (picked meshSays (strangeContent ns) _ _ (omega arith) (by (typeRead (getD ns 0 0)) (type-numbered (getD ns 0 0)))) where
         typed : (k : PayloadType) (t : TypeRead) → Numbered (typeSays t) → Numbered (meshSays (typedBy ns rssi snr k t))
         typed k (Kind t) s = tt
         typed k (NoKind n) s = s
@@ -279,7 +279,7 @@ module _ (l : Lent) (ns : List ℕ) (rssi snr : ℤ) (out : List ℕ) where
   unfolding numbersBody answerOf
   body-numbered = by (meshFrom ns rssi snr) (mesh-numbered ns rssi snr) where
     by : (r : MeshRead) → Numbered (meshSays r) → Numbered (writtenSays (answerOf (ifMesh (λ (p : MeshPacket). limitedOf (payloadWire l (p .payload))) refused r) out))
-    by (Mesh p) s = no-refusal-is-0 .body-write l (p .payload) out
+    by (Mesh p) s = no-refusal-is-0 .content-write l (p .payload) out
     by (NoMesh n) s = s
 
 sealed-numbered : (k : List ℕ) (l : Lent) (ns out : List ℕ) → Numbered (meshSays (numbersSealed k l ns out))
@@ -344,9 +344,9 @@ pub no-refusal-is-0-for-c : NoZeroForC
 no-refusal-is-0-for-c =
     record {
       mesh-header-write = λ hops n. header-numbered hops (typeRead n) (type-numbered n);
-      mesh-read-body = λ b n. bare-numbered b (typeRead n) (type-numbered n);
+      mesh-read-content = λ b n. bare-numbered b (typeRead n) (type-numbered n);
       mesh-write = written-numbered;
-      mesh-write-body = body-numbered;
+      mesh-write-content = body-numbered;
       mesh-sign = signed-numbered;
       mesh-validate = valid-numbered;
       mesh-seal = sealed-numbered;
@@ -372,9 +372,9 @@ relay-id-whole ns rssi snr h = wide-refused ns rssi snr (by (ltb micMost (getD n
   by false = simp (lt-ltb relayIdMost (getD ns 5 0) h)
 
 strange-mesh : (ns : List ℕ) (rssi snr : ℤ) → 1 < getD ns 0 0 → 4 < getD ns 13 0 → meshSays (meshFrom ns rssi snr) ≡ number typeLarge
-unfolding meshFrom strangeBody
+unfolding meshFrom strangeContent
 strange-mesh ns rssi snr k b = by (tooWide ns) where
-  by : (t : Bool) → meshSays (pick t (NoMesh typeLarge) (pick (strangeBody ns) (NoMesh typeLarge) (kindBy ns rssi snr (typeRead (getD ns 0 0))))) ≡ number typeLarge
+  by : (t : Bool) → meshSays (pick t (NoMesh typeLarge) (pick (strangeContent ns) (NoMesh typeLarge) (kindBy ns rssi snr (typeRead (getD ns 0 0))))) ≡ number typeLarge
   by true = refl
   by false = simp (le-ltb (getD ns 0 0) 2 k, lt-ltb 4 (getD ns 13 0) b)
 

@@ -45,9 +45,9 @@ use Rattle.wire.specs.Number.{beBytes}
 use Rattle.wire.specs.Hex.{allHex}
 use Rattle.wire.specs.Run.{runRefusal, runBytes}
 use Rattle.wire.specs.declared.run.Run.{Run}
-use Rattle.contents.specs.Body.{Lent, heldIn, bodyRefusal, bodyBytes, bodyWire}
-use Rattle.contents.specs.declared.body.Body.{Body}
-use Rattle.contents.specs.declared.body.Body.the-variants.{Empty, Sealed, Open, Items}
+use Rattle.contents.specs.Content.{Lent, heldIn, contentRefusal, contentBytes, contentWire}
+use Rattle.contents.specs.declared.content.Content.{Content}
+use Rattle.contents.specs.declared.content.Content.the-variants.{Empty, Sealed, Open, Items}
 use Rattle.links.specs.Read.{uplinkAt, downlinkAt, uplinkSays, downlinkSays}
 use Rattle.links.specs.Write.{followed, headedBy, limited, limitedOf, withMic, uplinkHead, uplinkWire, downlinkHead, downlinkWire}
 use Rattle.links.specs.declared.uplink.UplinkPayload.{UplinkPayload}
@@ -76,10 +76,10 @@ use Rattle.packets.specs.declared.mesh.MeshRead.the-variants.{Mesh, Refused as 
 use Rattle.packets.specs.declared.any.Packet.{Packet}
 use Rattle.packets.specs.declared.any.Packet.the-variants.{Mesh as AMesh, Lora}
 use Rattle.sealing.specs.Open.{refusedOr, openRefusal, openedBy, sealWire, readSealed, refuseOpen, tellOpen, decryptOf, decodeOf, openedSays}
-use Rattle.sealing.specs.Seal.{bodySeal, eventSeal, eventSealed, commandSeal, commandSealed, eventOpened, commandOpened, eventOpenedSays, commandOpenedSays}
+use Rattle.sealing.specs.Seal.{contentSeal, eventSeal, eventSealed, commandSeal, commandSealed, eventOpened, commandOpened, eventOpenedSays, commandOpenedSays}
 use Rattle.sealing.specs.Mesh.{ofEventSealed, ofCommandSealed, meshSealed, ofEventOpened, ofCommandOpened, meshDecrypted, meshDecoded, meshOpenedSays}
-use Rattle.sealing.specs.declared.body.Opened.{Opened}
-use Rattle.sealing.specs.declared.body.Opened.the-variants.{Opened as Now, AlreadyOpen, Refused as NotOpened}
+use Rattle.sealing.specs.declared.content.Opened.{Opened}
+use Rattle.sealing.specs.declared.content.Opened.the-variants.{Opened as Now, AlreadyOpen, Refused as NotOpened}
 use Rattle.sealing.specs.declared.event.EventOpened.{EventOpened}
 use Rattle.sealing.specs.declared.event.EventOpened.the-variants as event-opened
 use Rattle.sealing.specs.declared.command.CommandOpened.{CommandOpened}
@@ -352,12 +352,12 @@ downlink-wire s u =
     (more-behind (downlinkHead u) (runBytes s (u .«phy_payload»)) (more-behind (downWire (u .metadata)) (beBytes 4 (u .«relay_id»)) (downlink-metadata (u .metadata))))
 
 event-wire : (l : Lent) (u : EventPayload) → Numbered (frameSays (eventWire l u))
-unfolding eventWire stampedWire bodyWire
-event-wire l u = more-before (stamp (u .timestamp) (u .«relay_id»)) (bodyWire true l (u .events)) (unless (bodyRefusal true l (u .events)) _ tt)
+unfolding eventWire stampedWire contentWire
+event-wire l u = more-before (stamp (u .timestamp) (u .«relay_id»)) (contentWire true l (u .events)) (unless (contentRefusal true l (u .events)) _ tt)
 
 command-wire : (l : Lent) (u : CommandPayload) → Numbered (frameSays (commandWire l u))
-unfolding commandWire stampedWire bodyWire
-command-wire l u = more-before (stamp (u .timestamp) (u .«relay_id»)) (bodyWire false l (u .commands)) (unless (bodyRefusal false l (u .commands)) _ tt)
+unfolding commandWire stampedWire contentWire
+command-wire l u = more-before (stamp (u .timestamp) (u .«relay_id»)) (contentWire false l (u .commands)) (unless (contentRefusal false l (u .commands)) _ tt)
 
 within : (f : Frame) → Numbered (frameSays f) → Numbered (frameSays (limitedOf f))
 unfolding limited
@@ -400,12 +400,12 @@ packet-frame l (Lora r) = lora-frame (l .frame) r
 -- ---- sealed and opened
 
 event-seal : (key : List ℕ) (l : Lent) (u : EventPayload) → Numbered (frameSays (eventSeal key l u))
-unfolding eventSeal bodySeal
-event-seal key l u = unless (bodyRefusal true l (u .events)) _ (stream key true (u .«relay_id») (u .timestamp) (bodyBytes true l (u .events)))
+unfolding eventSeal contentSeal
+event-seal key l u = unless (contentRefusal true l (u .events)) _ (stream key true (u .«relay_id») (u .timestamp) (contentBytes true l (u .events)))
 
 command-seal : (key : List ℕ) (l : Lent) (u : CommandPayload) → Numbered (frameSays (commandSeal key l u))
-unfolding commandSeal bodySeal
-command-seal key l u = unless (bodyRefusal false l (u .commands)) _ (stream key false (u .«relay_id») (u .timestamp) (bodyBytes false l (u .commands)))
+unfolding commandSeal contentSeal
+command-seal key l u = unless (contentRefusal false l (u .commands)) _ (stream key false (u .«relay_id») (u .timestamp) (contentBytes false l (u .commands)))
 
 event-sealed : (u : EventPayload) (w : Written) → Numbered (writtenSays w) → Numbered (eventSays (eventSealed u w))
 unfolding eventSealed
@@ -446,7 +446,7 @@ unfolding openedBy
 opened-work ev (bytes c) w s = picked openedSays (ltb (length w) (length c)) _ _ (omega arith) tt
 opened-work ev (refused n) w s = s
 
-decrypted : (key : List ℕ) (ev : Bool) (relay time : ℕ) (b : Body) (f w : List ℕ) → Numbered (openedSays (decryptOf key ev relay time b f w))
+decrypted : (key : List ℕ) (ev : Bool) (relay time : ℕ) (b : Content) (f w : List ℕ) → Numbered (openedSays (decryptOf key ev relay time b f w))
 unfolding decryptOf
 decrypted key ev relay time Empty f w = tt
 decrypted key ev relay time (Sealed r) f w =
@@ -457,7 +457,7 @@ decrypted key ev relay time (Items n) f w = not-again n 0
 told-open : (kept outside : ℕ) → Numbered (openedSays (tellOpen kept outside))
 told-open kept outside = picked openedSays (eqb outside 0) _ _ (picked openedSays (eqb kept 0) _ _ tt tt) tt
 
-decoded : (ev : Bool) (b : Body) (f w : List ℕ) → Numbered (openedSays (decodeOf ev b f w))
+decoded : (ev : Bool) (b : Content) (f w : List ℕ) → Numbered (openedSays (decodeOf ev b f w))
 unfolding decodeOf readSealed
 decoded ev Empty f w = tt
 decoded ev (Sealed r) f w = or-refused (runRefusal (length f) r) _ (picked openedSays (ltb payloadMost (r .len)) _ _ (omega arith) tt)
@@ -622,11 +622,11 @@ pub record NoZero : Type 0 where
   pub mesh-decrypt : (key : List ℕ) (p : MeshPacket) (q : Payload) (f w : List ℕ) → Numbered (meshOpenedSays (meshDecrypted key p q f w))
   pub event-decrypt : (key : List ℕ) (relay time : ℕ) (u : EventPayload) (f w : List ℕ) → Numbered (eventOpenedSays (eventOpened u (decryptOf key true relay time (u .events) f w)))
   pub command-decrypt : (key : List ℕ) (relay time : ℕ) (u : CommandPayload) (f w : List ℕ) → Numbered (commandOpenedSays (commandOpened u (decryptOf key false relay time (u .commands) f w)))
-  pub body-decrypt : (key : List ℕ) (ev : Bool) (relay time : ℕ) (b : Body) (f w : List ℕ) → Numbered (openedSays (decryptOf key ev relay time b f w))
+  pub body-decrypt : (key : List ℕ) (ev : Bool) (relay time : ℕ) (b : Content) (f w : List ℕ) → Numbered (openedSays (decryptOf key ev relay time b f w))
   pub mesh-decode : (p : MeshPacket) (q : Payload) (f w : List ℕ) → Numbered (meshOpenedSays (meshDecoded p q f w))
   pub event-decode : (u : EventPayload) (f w : List ℕ) → Numbered (eventOpenedSays (eventOpened u (decodeOf true (u .events) f w)))
   pub command-decode : (u : CommandPayload) (f w : List ℕ) → Numbered (commandOpenedSays (commandOpened u (decodeOf false (u .commands) f w)))
-  pub body-decode : (ev : Bool) (b : Body) (f w : List ℕ) → Numbered (openedSays (decodeOf ev b f w))
+  pub body-decode : (ev : Bool) (b : Content) (f w : List ℕ) → Numbered (openedSays (decodeOf ev b f w))
   -- signed, validated, edited, under any cipher
   pub set-mic : (E : List ℕ → List ℕ) (l : Lent) (p : MeshPacket) → Numbered (meshSays (setMic E l p))
   pub validate-mic : (E : List ℕ → List ℕ) (l : Lent) (p : MeshPacket) → Numbered (validSays (validateMic E l p))

@@ -15,9 +15,9 @@ use Rattle.base.specs.Answers.{value, number, Frame, bytes, refused, unlessRefu
 use Rattle.wire.specs.Number.{beBytes}
 use Rattle.composed_items.specs.Composed.{verdictOf}
 use Rattle.composed_items.proofs.Laws.{kinds-29}
-use Rattle.contents.specs.Body.{Lent, bodyKinds, bodyRefusal, bodyWire}
-use Rattle.contents.specs.declared.body.Body.{Body}
-use Rattle.contents.specs.declared.body.Body.the-variants.{Empty, Sealed, Open, Items}
+use Rattle.contents.specs.Content.{Lent, contentKinds, contentRefusal, contentWire}
+use Rattle.contents.specs.declared.content.Content.{Content}
+use Rattle.contents.specs.declared.content.Content.the-variants.{Empty, Sealed, Open, Items}
 use Rattle.links.specs.Write.{headedBy, limitedOf, withMic}
 use Rattle.events.specs.Write.{stamp, stampedWire, eventWire, commandWire}
 use Rattle.packets.specs.Read.{meshSays}
@@ -27,7 +27,7 @@ use Rattle.packets.specs.declared.mesh.Payload.{Payload}
 use Rattle.packets.specs.declared.mesh.Payload.the-variants as payload
 use Rattle.packets.specs.declared.mesh.MeshPacket.{MeshPacket}
 use Rattle.packets.specs.declared.mesh.MeshRead.the-variants.{Mesh}
-use Rattle.sealing.specs.Seal.{bodySeal, eventSeal, eventSealed, commandSeal, commandSealed}
+use Rattle.sealing.specs.Seal.{contentSeal, eventSeal, eventSealed, commandSeal, commandSealed}
 use Rattle.sealing.specs.Mesh.{ofEventSealed, ofCommandSealed, meshSealed}
 use Rattle.mic.specs.declared.Validated.the-variants.{Valid, Invalid, Refused as NotValidated}
 use Rattle.promises.proofs.Said.{mesh-said}
@@ -80,25 +80,25 @@ or-first zero m h = absurd (h refl)
 or-first (suc k) m h = refl
 
 module _ (l : Lent) where
-  strange-body : (ev : Bool) (b : Body) → (bodyKinds ev (l .lists .kinds) (l .lists .spans) b ≡ 0 → ⊥) → typeLarge ≡ bodyRefusal ev l b
-  unfolding bodyRefusal bodyKinds verdictOf
-  strange-body ev Empty h = absurd (h refl)
-  strange-body ev (Sealed r) h = absurd (h refl)
-  strange-body ev (Open k r) h = absurd (h refl)
-  strange-body ev (Items n) h = sym (or-first _ _ h ∙ kinds-29 ev (l .lists .kinds) (l .lists .spans) n h)
+  strange-content : (ev : Bool) (b : Content) → (contentKinds ev (l .lists .kinds) (l .lists .spans) b ≡ 0 → ⊥) → typeLarge ≡ contentRefusal ev l b
+  unfolding contentRefusal contentKinds verdictOf
+  strange-content ev Empty h = absurd (h refl)
+  strange-content ev (Sealed r) h = absurd (h refl)
+  strange-content ev (Open k r) h = absurd (h refl)
+  strange-content ev (Items n) h = sym (or-first _ _ h ∙ kinds-29 ev (l .lists .kinds) (l .lists .spans) n h)
 
-  body-strange : (ev : Bool) (b : Body) (f : Frame) → (bodyKinds ev (l .lists .kinds) (l .lists .spans) b ≡ 0 → ⊥) → unlessRefused (bodyRefusal ev l b) f ≡ refused typeLarge
-  body-strange ev b f h = sym (is-refused typeLarge (bodyRefusal ev l b) f (strange-body ev b h) (λ z. omega arith))
+  body-strange : (ev : Bool) (b : Content) (f : Frame) → (contentKinds ev (l .lists .kinds) (l .lists .spans) b ≡ 0 → ⊥) → unlessRefused (contentRefusal ev l b) f ≡ refused typeLarge
+  body-strange ev b f h = sym (is-refused typeLarge (contentRefusal ev l b) f (strange-content ev b h) (λ z. omega arith))
 
   wire-strange : (q : Payload) → (payloadKinds (l .lists .kinds) (l .lists .spans) q ≡ 0 → ⊥) → payloadWire l q ≡ refused typeLarge
-  unfolding payloadWire payloadKinds eventWire commandWire stampedWire bodyWire
+  unfolding payloadWire payloadKinds eventWire commandWire stampedWire contentWire
   wire-strange (payload.Uplink u) h = absurd (h refl)
   wire-strange (payload.Downlink u) h = absurd (h refl)
   wire-strange (payload.Event u) h = ap (headedBy (stamp (u .timestamp) (u .«relay_id»))) (body-strange true (u .events) _ h)
   wire-strange (payload.Command u) h = ap (headedBy (stamp (u .timestamp) (u .«relay_id»))) (body-strange false (u .commands) _ h)
 
   seal-strange : (key : List ℕ) (p : MeshPacket) (q : Payload) (o : List ℕ) → (payloadKinds (l .lists .kinds) (l .lists .spans) q ≡ 0 → ⊥) → meshSays (meshSealed key l p q o) ≡ number typeLarge
-  unfolding meshSealed payloadKinds eventSeal commandSeal bodySeal eventSealed commandSealed answerOf
+  unfolding meshSealed payloadKinds eventSeal commandSeal contentSeal eventSealed commandSealed answerOf
   seal-strange key p (payload.Uplink u) o h = absurd (h refl)
   seal-strange key p (payload.Downlink u) o h = absurd (h refl)
   seal-strange key p (payload.Event u) o h = ap (λ (f : Frame). meshSays (ofEventSealed p (eventSealed u (answerOf f o)))) (body-strange true (u .events) _ h)

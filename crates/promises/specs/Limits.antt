@@ -12,7 +12,7 @@ use Rattle.fields.specs.Header.{codeOf, typeLeast, typeMost}
 use Rattle.fields.specs.declared.header.PayloadType.{PayloadType}
 use Rattle.fields.specs.declared.header.PayloadType.the-variants as type
 use Rattle.fields.specs.declared.path.RelayPath.{RelayPath}
-use Rattle.contents.specs.declared.body.Body.the-variants.{Empty}
+use Rattle.contents.specs.declared.content.Content.the-variants.{Empty}
 use Rattle.links.specs.declared.uplink.UplinkPayload.{UplinkPayload}
 use Rattle.links.specs.declared.downlink.DownlinkPayload.{DownlinkPayload}
 use Rattle.packets.specs.declared.mesh.Payload.{Payload}

@@ -24,7 +24,7 @@ use Rattle.fields.specs.declared.header.HeaderByte.the-variants.{Byte}
 use Rattle.fields.proofs.Laws.Header.{header-again}
 use Rattle.links.specs.Read.{fourAt}
 use Rattle.composed_items.specs.Composed.{Lists}
-use Rattle.contents.specs.Body.{framed}
+use Rattle.contents.specs.Content.{framed}
 use Rattle.links.specs.Write.{withMic}
 use Rattle.packets.specs.Read.{bodyIn, payloadAt, withPayload, withHeader, meshOf}
 use Rattle.packets.specs.Write.{payloadWire, behind, meshFrame}

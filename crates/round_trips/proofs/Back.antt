@@ -21,7 +21,7 @@ use Rattle.fields.specs.declared.header.PayloadType.the-variants.{Uplink, Downl
 use Rattle.fields.proofs.Laws.Header.{header-back}
 use Rattle.wire.specs.Run.{runRefusal, runBytes, runAt}
 use Rattle.links.specs.Read.{uplinkAt, downlinkAt, heard}
-use Rattle.contents.specs.Body.{Lent, bodyOf, bodyBytes}
+use Rattle.contents.specs.Content.{Lent, contentOf, contentBytes}
 use Rattle.events.specs.Read.{eventAt, commandAt}
 use Rattle.links.specs.Write.{uplinkHead, uplinkWire, downlinkHead, downlinkWire}
 use Rattle.events.specs.Write.{stamp, eventWire, commandWire}
@@ -109,11 +109,11 @@ module _ (s : Lent) (w : List ℕ) (p : MeshPacket) (written : meshFrame s p ≡
       )
 
   pub event-back : (u : EventPayload) → p .payload ≡ AnEvent u → p .mhdr .«payload_type» ≡ Event → u .timestamp < 4294967296 → u .«relay_id» < 4294967296
-      → (meshOf w ≡ Mesh (carrying p (AnEvent (record { timestamp = u .timestamp; «relay_id» = u .«relay_id»; events = bodyOf 9 (length (bodyBytes true s (u .events))) }))))
-      × (runBytes w (runAt 9 (length (bodyBytes true s (u .events)))) ≡ bodyBytes true s (u .events))
+      → (meshOf w ≡ Mesh (carrying p (AnEvent (record { timestamp = u .timestamp; «relay_id» = u .«relay_id»; events = contentOf 9 (length (contentBytes true s (u .events))) }))))
+      × (runBytes w (runAt 9 (length (contentBytes true s (u .events)))) ≡ contentBytes true s (u .events))
   unfolding payloadWire eventWire payloadAt
   event-back u eu et ht hr =
-      let v = bodyBytes true s (u .events) in
+      let v = contentBytes true s (u .events) in
       let h = stamp (u .timestamp) (u .«relay_id») in
       let e : k .body ≡ h ++ v = stamped-bytes true s _ (k .body) (sym (ap (payloadWire s) eu) ∙ k .payload) in
       let l = stamp-length (u .timestamp) (u .«relay_id») in
@@ -123,11 +123,11 @@ module _ (s : Lent) (w : List ℕ) (p : MeshPacket) (written : meshFrame s p ≡
       )
 
   pub command-back : (u : CommandPayload) → p .payload ≡ ACommand u → p .mhdr .«payload_type» ≡ Command → u .timestamp < 4294967296 → u .«relay_id» < 4294967296
-      → (meshOf w ≡ Mesh (carrying p (ACommand (record { timestamp = u .timestamp; «relay_id» = u .«relay_id»; commands = bodyOf 9 (length (bodyBytes false s (u .commands))) }))))
-      × (runBytes w (runAt 9 (length (bodyBytes false s (u .commands)))) ≡ bodyBytes false s (u .commands))
+      → (meshOf w ≡ Mesh (carrying p (ACommand (record { timestamp = u .timestamp; «relay_id» = u .«relay_id»; commands = contentOf 9 (length (contentBytes false s (u .commands))) }))))
+      × (runBytes w (runAt 9 (length (contentBytes false s (u .commands)))) ≡ contentBytes false s (u .commands))
   unfolding payloadWire commandWire payloadAt
   command-back u eu et ht hr =
-      let v = bodyBytes false s (u .commands) in
+      let v = contentBytes false s (u .commands) in
       let h = stamp (u .timestamp) (u .«relay_id») in
       let e : k .body ≡ h ++ v = stamped-bytes false s _ (k .body) (sym (ap (payloadWire s) eu) ∙ k .payload) in
       let l = stamp-length (u .timestamp) (u .«relay_id») in

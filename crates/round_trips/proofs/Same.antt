@@ -29,9 +29,9 @@ use Rattle.links.specs.Write.{followed, withRun, uplinkHead, uplinkWire, downli
 use Rattle.events.specs.Write.{stamp, stampedWire, eventWire, commandWire}
 use Rattle.wire.specs.declared.run.Run.{Run}
 use Rattle.composed_items.specs.Composed.{Lists}
-use Rattle.contents.specs.Body.{bodyRefusal, bodyBytes, bodyWire, framed}
-use Rattle.contents.specs.declared.body.Body.{Body}
-use Rattle.contents.specs.declared.body.Body.the-variants.{Empty, Sealed}
+use Rattle.contents.specs.Content.{contentRefusal, contentBytes, contentWire, framed}
+use Rattle.contents.specs.declared.content.Content.{Content}
+use Rattle.contents.specs.declared.content.Content.the-variants.{Empty, Sealed}
 use Rattle.links.specs.declared.uplink.UplinkPayload.{UplinkPayload}
 use Rattle.links.specs.declared.uplink.UplinkRead.{UplinkRead}
 use Rattle.links.specs.declared.uplink.UplinkRead.the-variants.{Payload as UplinkIs, Refused as NoUplink}
@@ -147,8 +147,8 @@ module _ (s : List ℕ) (least : 5 ≤ length s) where
 
     -- an event's or a command's: nothing behind the relay id, or one run
     sealed-by : (ev : Bool) (time relay : ℕ) (t : Bool) → 8 ≤ length b → eqb (length b - 8) 0 ≡ t → stamp time relay ≡ from 8 0 (λ i. getD b i 0)
-        → headedBy (stamp time relay) (bodyWire ev (framed s x) (pick t Empty (Sealed (record { start = 9; len = length b - 8 })))) ≡ bytes b
-    unfolding bodyWire bodyRefusal bodyBytes
+        → headedBy (stamp time relay) (contentWire ev (framed s x) (pick t Empty (Sealed (record { start = 9; len = length b - 8 })))) ≡ bytes b
+    unfolding contentWire contentRefusal contentBytes
     sealed-by ev time relay true l e q =
         let z : length b ≤ 8 = let y : length b - 8 ≡ 0 = eqb-true _ _ e in omega arith in
         let d : drop 8 b ≡ [] = drop-of-length-le b z in
@@ -164,14 +164,14 @@ module _ (s : List ℕ) (least : 5 ≤ length s) where
     unfolding eventWire stampedWire
     event u e =
         let w = event-was 1 b u e in
-        ap (λ (y : Body). headedBy (stamp (u .timestamp) (u .«relay_id»)) (bodyWire true (framed s x) y)) (w .body-is)
+        ap (λ (y : Content). headedBy (stamp (u .timestamp) (u .«relay_id»)) (contentWire true (framed s x) y)) (w .body-is)
         ∙ sealed-by true (u .timestamp) (u .«relay_id») (eqb (length b - 8) 0) (w .least) refl (event-again 1 b u bs e)
 
     command : (u : CommandPayload) → commandAt 1 b ≡ CommandIs u → commandWire (framed s x) u ≡ bytes b
     unfolding commandWire stampedWire
     command u e =
         let w = command-was 1 b u e in
-        ap (λ (y : Body). headedBy (stamp (u .timestamp) (u .«relay_id»)) (bodyWire false (framed s x) y)) (w .body-is)
+        ap (λ (y : Content). headedBy (stamp (u .timestamp) (u .«relay_id»)) (contentWire false (framed s x) y)) (w .body-is)
         ∙ sealed-by false (u .timestamp) (u .«relay_id») (eqb (length b - 8) 0) (w .least) refl (command-again 1 b u bs e)
 
     abbrev pub clearedBody : PayloadType → List ℕ

@@ -20,7 +20,7 @@ use Rattle.fields.specs.declared.header.HeaderByte.{HeaderByte}
 use Rattle.fields.specs.declared.header.HeaderByte.the-variants.{Byte, Refused as NoByte}
 use Rattle.fields.proofs.Laws.Header.{header-back}
 use Rattle.links.specs.Read.{fourAt}
-use Rattle.contents.specs.Body.{Lent}
+use Rattle.contents.specs.Content.{Lent}
 use Rattle.links.specs.Write.{prefixed, withMic}
 use Rattle.packets.specs.Read.{bodyIn, payloadAt, withPayload, withHeader, meshOf}
 use Rattle.packets.specs.Write.{payloadWire, kindsIn, behind, messageOf, meshFrame}

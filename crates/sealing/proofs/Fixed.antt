@@ -3,10 +3,10 @@ use mathlib.Core.Path.{refl, sym, ap, _∙_}
 use mathlib.Core.List.{List}
 use Prim.Native.Nat.{ℕ}
 use Rattle.base.proofs.Outcome.{Fixed}
-use Rattle.sealing.proofs.body.decrypt.Kinds as body-decrypt-kinds
-use Rattle.sealing.proofs.body.decrypt.Reads as body-decrypt-reads
-use Rattle.sealing.proofs.body.decode.Kinds as body-decode-kinds
-use Rattle.sealing.proofs.body.decode.Reads as body-decode-reads
+use Rattle.sealing.proofs.content.decrypt.Kinds as content-decrypt-kinds
+use Rattle.sealing.proofs.content.decrypt.Reads as content-decrypt-reads
+use Rattle.sealing.proofs.content.decode.Kinds as content-decode-kinds
+use Rattle.sealing.proofs.content.decode.Reads as content-decode-reads
 use Rattle.sealing.proofs.event.encrypt.Kinds as event-encrypt-kinds
 use Rattle.sealing.proofs.event.encrypt.Reads as event-encrypt-reads
 use Rattle.sealing.proofs.event.decrypt.Kinds as event-decrypt-kinds
@@ -26,11 +26,11 @@ use Rattle.sealing.proofs.mesh.decrypt.Reads as mesh-decrypt-reads
 use Rattle.sealing.proofs.mesh.decode.Kinds as mesh-decode-kinds
 use Rattle.sealing.proofs.mesh.decode.Reads as mesh-decode-reads
 
-body-decrypt : Fixed 2 body-decrypt-kinds.ps body-decrypt-kinds.r body-decrypt-reads.Post
-body-decrypt κs a x y v w p q = (p .0 ∙ sym (q .0), ap (λ (l : List ℕ). (tt, (tt, (tt, (tt, (tt, (tt, (l, tt)))))))) (p .1 ∙ sym (q .1)))
+content-decrypt : Fixed 2 content-decrypt-kinds.ps content-decrypt-kinds.r content-decrypt-reads.Post
+content-decrypt κs a x y v w p q = (p .0 ∙ sym (q .0), ap (λ (l : List ℕ). (tt, (tt, (tt, (tt, (tt, (tt, (l, tt)))))))) (p .1 ∙ sym (q .1)))
 
-body-decode : Fixed 1 body-decode-kinds.ps body-decode-kinds.r body-decode-reads.Post
-body-decode κs a x y v w p q = (p ∙ sym q, refl)
+content-decode : Fixed 1 content-decode-kinds.ps content-decode-kinds.r content-decode-reads.Post
+content-decode κs a x y v w p q = (p ∙ sym q, refl)
 
 event-encrypt : Fixed 7 event-encrypt-kinds.ps event-encrypt-kinds.r event-encrypt-reads.Post
 event-encrypt κs a x y v w p q = (p .0 ∙ sym (q .0), ap (λ (l : List ℕ). (tt, (tt, (tt, (tt, (tt, (tt, (tt, (tt, (tt, (l, tt))))))))))) (p .1 ∙ sym (q .1)))

@@ -1,4 +1,4 @@
--- The steps of opening a body, over any run, payload and work buffer, and of sealing one, over any output and lent lists. Assumes nothing.
+-- The steps of opening a content, over any run, payload and work buffer, and of sealing one, over any output and lent lists. Assumes nothing.
 use Prim.Native.Nat.{ℕ, _+_, _-_, _≤_, _<_}
 use native.Mathlib.Omega.{arith}
 use mathlib.Core.Bool.{Bool, true, false, not}
@@ -25,14 +25,14 @@ use Rattle.key_stream.proofs.Turns.{too-long, too-short, sealed-in}
 use Rattle.items.specs.Items.{openingOf}
 use Rattle.composed_items.specs.inner.Passes.{capped}
 use Rattle.links.proofs.Steps.{Outcome, refuses, same-frame}
-use Rattle.contents.specs.Body.{Lent, bodyRefusal, bodyBytes}
-use Rattle.contents.specs.declared.body.Body.{Body}
-use Rattle.contents.specs.declared.body.Held.the-variants.{Work as InWork}
+use Rattle.contents.specs.Content.{Lent, contentRefusal, contentBytes}
+use Rattle.contents.specs.declared.content.Content.{Content}
+use Rattle.contents.specs.declared.content.Held.the-variants.{Work as InWork}
 use Rattle.events.proofs.Steps.{capped-small, capped-large}
-use Rattle.sealing.specs.declared.body.Opened.{Opened}
-use Rattle.sealing.specs.declared.body.Opened.the-variants.{Refused}
+use Rattle.sealing.specs.declared.content.Opened.{Opened}
+use Rattle.sealing.specs.declared.content.Opened.the-variants.{Refused}
 use Rattle.sealing.specs.Open.{refusedOr, openedAs, openedBy, sealWire}
-use Rattle.sealing.specs.Seal.{bodySeal}
+use Rattle.sealing.specs.Seal.{contentSeal}
 
 -- a refusal that is asked, and one that is passed
 pub is-refused : (n : ℕ) (x : Opened) (k : ℕ) → k ≡ n → (k ≡ 0 → ⊥) → Refused k ≡ refusedOr n x
@@ -97,35 +97,35 @@ seal-is key ev relay time f r k v e h q =
 
 -- ---- a body, written and with the stream added
 
-module _ (key : List ℕ) (ev : Bool) (relay time : ℕ) (l : Lent) (b : Body) (o : List ℕ) (k : ℕ) (ek : k ≡ bodyRefusal ev l b) where
+module _ (key : List ℕ) (ev : Bool) (relay time : ℕ) (l : Lent) (b : Content) (o : List ℕ) (k : ℕ) (ek : k ≡ contentRefusal ev l b) where
   abbrev clear : List ℕ
-  clear = bodyBytes ev l b
+  clear = contentBytes ev l b
 
   abbrev sealed : Frame
   sealed = sealedOf key ev relay time clear
 
-  pub seal-refused : (k ≡ 0 → ⊥) → Outcome (NotWritten k) o (bodySeal key ev relay time l b) o
-  unfolding bodySeal
+  pub seal-refused : (k ≡ 0 → ⊥) → Outcome (NotWritten k) o (contentSeal key ev relay time l b) o
+  unfolding contentSeal
   seal-refused h = refuses _ k o (sym (unless-refused k _ sealed ek h))
 
-  module _ (z : k ≡ 0) (n : ℕ) (en : n ≡ capped (length (bodyBytes ev l b))) where
+  module _ (z : k ≡ 0) (n : ℕ) (en : n ≡ capped (length (contentBytes ev l b))) where
     -- what is answered of the bytes is answered of the body
-    as-body : (a : Written) (x : List ℕ) → Outcome a x sealed o → Outcome a x (bodySeal key ev relay time l b) o
-    unfolding bodySeal
-    as-body a x = same-frame _ sealed a x o (sym (not-refused (bodyRefusal ev l b) sealed (sym ek ∙ z)))
+    as-body : (a : Written) (x : List ℕ) → Outcome a x sealed o → Outcome a x (contentSeal key ev relay time l b) o
+    unfolding contentSeal
+    as-body a x = same-frame _ sealed a x o (sym (not-refused (contentRefusal ev l b) sealed (sym ek ∙ z)))
 
-    pub seal-long : 8179 < n → Outcome (NotWritten frameLong) o (bodySeal key ev relay time l b) o
+    pub seal-long : 8179 < n → Outcome (NotWritten frameLong) o (contentSeal key ev relay time l b) o
     seal-long h = as-body (NotWritten frameLong) o (too-long key ev relay time clear o (capped-large n _ en h))
 
-    pub seal-short : n ≤ 8179 → length o < n → Outcome (NotWritten outputShort) o (bodySeal key ev relay time l b) o
+    pub seal-short : n ≤ 8179 → length o < n → Outcome (NotWritten outputShort) o (contentSeal key ev relay time l b) o
     seal-short f h =
-        let s : n ≡ length (bodyBytes ev l b) = capped-small n _ en f in
+        let s : n ≡ length (contentBytes ev l b) = capped-small n _ en f in
         as-body (NotWritten outputShort) o (too-short key ev relay time clear o (omega arith) (omega arith))
 
-    pub seal-done : Block key → n ≤ 8179 → n ≤ length o → {x y e : List ℕ} → x ≡ put o 0 (bodyBytes ev l b) → e ≡ prepared key
-        → y ≡ streamed (enciphered e) (numbered ev relay time) (take n x) → Outcome (Bytes n) (y ++ drop n x) (bodySeal key ev relay time l b) o
+    pub seal-done : Block key → n ≤ 8179 → n ≤ length o → {x y e : List ℕ} → x ≡ put o 0 (contentBytes ev l b) → e ≡ prepared key
+        → y ≡ streamed (enciphered e) (numbered ev relay time) (take n x) → Outcome (Bytes n) (y ++ drop n x) (contentSeal key ev relay time l b) o
     seal-done c f g {x} {y} {e} ex ee ey =
-        let s : n ≡ length (bodyBytes ev l b) = capped-small n _ en f in
+        let s : n ≡ length (contentBytes ev l b) = capped-small n _ en f in
         let i = sealed-in key ev relay time clear o c (omega arith) (omega arith) {l = x} {x = y} {e = e} ex ee
         (ey ∙ ap (λ (j : ℕ). streamed (enciphered e) (numbered ev relay time) (take j x)) s) in
-        rw s (as-body (Bytes (length (bodyBytes ev l b))) (y ++ drop (length (bodyBytes ev l b)) x) i)
+        rw s (as-body (Bytes (length (contentBytes ev l b))) (y ++ drop (length (contentBytes ev l b)) x) i)

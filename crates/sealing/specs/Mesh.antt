@@ -4,7 +4,7 @@ use mathlib.Core.List.{List, []}
 use Prim.Native.Nat.{ℕ}
 use Rattle.base.specs.Answers.{Frame, bytes, answerOf, Answer, value, number}
 use Rattle.items.specs.Items.{nothing}
-use Rattle.contents.specs.Body.{Lent}
+use Rattle.contents.specs.Content.{Lent}
 use Rattle.events.specs.declared.stamped.EventRead.{EventRead}
 use Rattle.events.specs.declared.stamped.EventRead.the-variants.{Payload as EventIs, Refused as NoEvent}
 use Rattle.events.specs.declared.stamped.CommandRead.{CommandRead}

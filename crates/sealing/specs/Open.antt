@@ -1,4 +1,4 @@
--- Opening a body: `decrypt`, which takes the key stream off into the work buffer, and `decode`, which reads the frame as it stands.
+-- Opening a content: `decrypt`, which takes the key stream off into the work buffer, and `decode`, which reads the frame as it stands.
 -- Assumes nothing.
 use Prim.Native.Nat.{ℕ}
 use mathlib.Core.Bool.{Bool}
@@ -13,13 +13,13 @@ use Rattle.wire.specs.declared.run.Run.{Run}
 use Rattle.items.specs.Items.{openingOf, nothing}
 use Rattle.items.specs.declared.count.Opening.{Opening}
 use Rattle.key_stream.specs.Stream.{sealedOf}
-use Rattle.contents.specs.Body.{heldIn}
-use Rattle.contents.specs.declared.body.Held.{Held}
-use Rattle.contents.specs.declared.body.Held.the-variants.{Frame as InFrame, Work as InWork}
-use Rattle.contents.specs.declared.body.Body.{Body}
-use Rattle.contents.specs.declared.body.Body.the-variants.{Empty, Sealed, Open, Items}
-use Rattle.sealing.specs.declared.body.Opened.{Opened}
-use Rattle.sealing.specs.declared.body.Opened.the-variants.{Opened as Now, AlreadyOpen, Refused}
+use Rattle.contents.specs.Content.{heldIn}
+use Rattle.contents.specs.declared.content.Held.{Held}
+use Rattle.contents.specs.declared.content.Held.the-variants.{Frame as InFrame, Work as InWork}
+use Rattle.contents.specs.declared.content.Content.{Content}
+use Rattle.contents.specs.declared.content.Content.the-variants.{Empty, Sealed, Open, Items}
+use Rattle.sealing.specs.declared.content.Opened.{Opened}
+use Rattle.sealing.specs.declared.content.Opened.the-variants.{Opened as Now, AlreadyOpen, Refused}
 
 abbrev pub refusedOr : ℕ → Opened → Opened
 refusedOr n x = pick (eqb n 0) x (Refused n)
@@ -58,7 +58,7 @@ refuseOpen kept outside = refusedOr (openRefusal kept) (refusedOr outside nothin
 abbrev pub tellOpen : ℕ → ℕ → Opened
 tellOpen kept outside = pick (eqb outside 0) (pick (eqb kept 0) nothingIn AlreadyOpen) AlreadyOpen
 
-unfoldable pub decryptOf : List ℕ → Bool → ℕ → ℕ → Body → List ℕ → List ℕ → Opened
+unfoldable pub decryptOf : List ℕ → Bool → ℕ → ℕ → Content → List ℕ → List ℕ → Opened
 decryptOf key ev relay time Empty f w = nothingIn
 decryptOf key ev relay time (Sealed r) f w = openedBy ev (sealWire key ev relay time f r) w
 decryptOf key ev relay time (Open h r) f w =
@@ -66,13 +66,13 @@ decryptOf key ev relay time (Open h r) f w =
 decryptOf key ev relay time (Items n) f w = refuseOpen n 0
 
 -- what the work buffer holds then
-unfoldable pub workAfter : List ℕ → Bool → ℕ → ℕ → Body → List ℕ → List ℕ → List ℕ
+unfoldable pub workAfter : List ℕ → Bool → ℕ → ℕ → Content → List ℕ → List ℕ → List ℕ
 workAfter key ev relay time Empty f w = w
 workAfter key ev relay time (Sealed r) f w = outOf (sealWire key ev relay time f r) w
 workAfter key ev relay time (Open h r) f w = w
 workAfter key ev relay time (Items n) f w = w
 
-unfoldable pub decodeOf : Bool → Body → List ℕ → List ℕ → Opened
+unfoldable pub decodeOf : Bool → Content → List ℕ → List ℕ → Opened
 decodeOf ev Empty f w = nothingIn
 decodeOf ev (Sealed r) f w = readSealed ev f r
 decodeOf ev (Open h r) f w = tellOpen (openingOf ev (runBytes (heldIn h f w) r) .kept) (runRefusal (length (heldIn h f w)) r)
@@ -84,7 +84,7 @@ pub data Told (A : Type 0) : Type 0 where
   told : A → Opening → Told A
   wasOpen : Told A
 
-abbrev pub openedSays : Opened → Answer (Told Body)
+abbrev pub openedSays : Opened → Answer (Told Content)
 openedSays (Now b o) = value (told b o)
 openedSays AlreadyOpen = value wasOpen
 openedSays (Refused n) = number n

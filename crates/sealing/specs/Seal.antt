@@ -6,8 +6,8 @@ use Rattle.base.specs.Answers.{Frame, Answer, value, number, unlessRefused}
 use Rattle.base.specs.declared.Written.{Written}
 use Rattle.base.specs.declared.Written.the-variants.{Bytes, Refused}
 use Rattle.key_stream.specs.Stream.{sealedOf}
-use Rattle.contents.specs.Body.{Lent, bodyOf, bodyRefusal, bodyBytes}
-use Rattle.contents.specs.declared.body.Body.{Body}
+use Rattle.contents.specs.Content.{Lent, contentOf, contentRefusal, contentBytes}
+use Rattle.contents.specs.declared.content.Content.{Content}
 use Rattle.events.specs.declared.stamped.EventPayload.{EventPayload}
 use Rattle.events.specs.declared.stamped.EventRead.{EventRead}
 use Rattle.events.specs.declared.stamped.EventRead.the-variants.{Payload as EventIs, Refused as EventIsNot}
@@ -15,34 +15,34 @@ use Rattle.events.specs.declared.stamped.CommandPayload.{CommandPayload}
 use Rattle.events.specs.declared.stamped.CommandRead.{CommandRead}
 use Rattle.events.specs.declared.stamped.CommandRead.the-variants.{Payload as CommandIs, Refused as CommandIsNot}
 use Rattle.sealing.specs.Open.{Told, told, wasOpen}
-use Rattle.sealing.specs.declared.body.Opened.{Opened}
-use Rattle.sealing.specs.declared.body.Opened.the-variants.{Opened as Now, AlreadyOpen, Refused as NotOpened}
+use Rattle.sealing.specs.declared.content.Opened.{Opened}
+use Rattle.sealing.specs.declared.content.Opened.the-variants.{Opened as Now, AlreadyOpen, Refused as NotOpened}
 use Rattle.sealing.specs.declared.event.EventOpened.{EventOpened}
 use Rattle.sealing.specs.declared.event.EventOpened.the-variants.{Opened as EventNow, AlreadyOpen as EventOpen, Refused as NoEvent}
 use Rattle.sealing.specs.declared.command.CommandOpened.{CommandOpened}
 use Rattle.sealing.specs.declared.command.CommandOpened.the-variants.{Opened as CommandNow, AlreadyOpen as CommandOpen, Refused as NoCommand}
 
--- ---- sealing: what is written of the body, with the key stream added, or the first refusal: 29, 45, path entries, 19, 20, 5
+-- ---- sealing: what is written of the content, with the key stream added, or the first refusal: 29, 45, path entries, 19, 20, 5
 
-unfoldable pub bodySeal : List ℕ → Bool → ℕ → ℕ → Lent → Body → Frame
-bodySeal key ev relay time l b = unlessRefused (bodyRefusal ev l b) (sealedOf key ev relay time (bodyBytes ev l b))
+unfoldable pub contentSeal : List ℕ → Bool → ℕ → ℕ → Lent → Content → Frame
+contentSeal key ev relay time l b = unlessRefused (contentRefusal ev l b) (sealedOf key ev relay time (contentBytes ev l b))
 
 unfoldable pub eventSeal : List ℕ → Lent → EventPayload → Frame
-eventSeal key l p = bodySeal key true (p .«relay_id») (p .timestamp) l (p .events)
+eventSeal key l p = contentSeal key true (p .«relay_id») (p .timestamp) l (p .events)
 
 unfoldable pub commandSeal : List ℕ → Lent → CommandPayload → Frame
-commandSeal key l p = bodySeal key false (p .«relay_id») (p .timestamp) l (p .commands)
+commandSeal key l p = contentSeal key false (p .«relay_id») (p .timestamp) l (p .commands)
 
 -- it lies at the front of the output, which is lent as the frame from then on; what has no bytes is empty
 unfoldable pub eventSealed : EventPayload → Written → EventRead
 eventSealed p (Refused n) = EventIsNot n
-eventSealed p (Bytes n) = EventIs (record { timestamp = p .timestamp; «relay_id» = p .«relay_id»; events = bodyOf 0 n })
+eventSealed p (Bytes n) = EventIs (record { timestamp = p .timestamp; «relay_id» = p .«relay_id»; events = contentOf 0 n })
 
 unfoldable pub commandSealed : CommandPayload → Written → CommandRead
 commandSealed p (Refused n) = CommandIsNot n
-commandSealed p (Bytes n) = CommandIs (record { timestamp = p .timestamp; «relay_id» = p .«relay_id»; commands = bodyOf 0 n })
+commandSealed p (Bytes n) = CommandIs (record { timestamp = p .timestamp; «relay_id» = p .«relay_id»; commands = contentOf 0 n })
 
--- ---- opening: the payload with its body from now on
+-- ---- opening: the payload with its content from now on
 
 abbrev pub eventOpened : EventPayload → Opened → EventOpened
 eventOpened p (NotOpened n) = NoEvent n

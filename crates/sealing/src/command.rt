@@ -2,13 +2,13 @@
 ghost use mathlib.Core.Path.{_≡_};
 ghost use mathlib.Core.Bool.{Bool};
 ghost use Rattle.base.specs.Answers.{answerOf, outOf};
-ghost use Rattle.contents.specs.Body.{lent};
+ghost use Rattle.contents.specs.Content.{lent};
 ghost use Rattle.sealing.specs.Open.{decryptOf, workAfter, decodeOf};
 ghost use Rattle.sealing.specs.Seal.{commandSeal, commandSealed, commandOpened};
-use crate::body;
-use crate::body::Opened;
+use crate::content;
+use crate::content::Opened;
 use base::Written;
-use contents::Body;
+use contents::Content;
 use events::CommandPayload;
 use events::CommandRead;
 use items::Opening;
@@ -41,7 +41,7 @@ pub fn encrypt<'a>(
     ensures bytes { λ _. ⌜ now (out .exit) ≡ outOf (commandSeal (key .0) (lent (now (frame .entry)) (now (work .entry)) (now (kinds .entry)) (now (spans .entry)) (now (ids .entry)) (now (rssis .entry)) (now (snrs .entry))) payload) (now (out .entry)) ⌝ }
 {
     let commands = payload.commands;
-    match body::encrypt(
+    match content::encrypt(
         commands,
         key,
         false,
@@ -60,7 +60,7 @@ pub fn encrypt<'a>(
         Written::Bytes(n) => CommandRead::Payload(CommandPayload {
             timestamp: payload.timestamp,
             relay_id: payload.relay_id,
-            commands: Body::of(0, n),
+            commands: Content::of(0, n),
         }),
     }
 }
@@ -71,11 +71,11 @@ fn opened(payload: CommandPayload, o: Opened) -> CommandOpened
     match o {
         Opened::Refused(n) => CommandOpened::Refused(n),
         Opened::AlreadyOpen => CommandOpened::AlreadyOpen,
-        Opened::Opened { body, opening } => CommandOpened::Opened {
+        Opened::Opened { content, opening } => CommandOpened::Opened {
             payload: CommandPayload {
                 timestamp: payload.timestamp,
                 relay_id: payload.relay_id,
-                commands: body,
+                commands: content,
             },
             opening,
         },
@@ -95,7 +95,7 @@ pub fn decrypt(
     let commands = payload.commands;
     opened(
         payload,
-        body::decrypt(
+        content::decrypt(
             commands,
             key,
             false,
@@ -112,5 +112,5 @@ pub fn decode<'a>(payload: CommandPayload, frame: &'a [u8], work: &'a [u8]) -> C
     ensures { λ r. ⌜ r ≡ commandOpened payload (decodeOf Bool.false (payload .commands) (now (frame .entry)) (now (work .entry))) ⌝ }
 {
     let commands = payload.commands;
-    opened(payload, body::decode(commands, false, frame, work))
+    opened(payload, content::decode(commands, false, frame, work))
 }

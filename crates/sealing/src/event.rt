@@ -2,13 +2,13 @@
 ghost use mathlib.Core.Path.{_≡_};
 ghost use mathlib.Core.Bool.{Bool};
 ghost use Rattle.base.specs.Answers.{answerOf, outOf};
-ghost use Rattle.contents.specs.Body.{lent};
+ghost use Rattle.contents.specs.Content.{lent};
 ghost use Rattle.sealing.specs.Open.{decryptOf, workAfter, decodeOf};
 ghost use Rattle.sealing.specs.Seal.{eventSeal, eventSealed, eventOpened};
-use crate::body;
-use crate::body::Opened;
+use crate::content;
+use crate::content::Opened;
 use base::Written;
-use contents::Body;
+use contents::Content;
 use events::EventPayload;
 use events::EventRead;
 use items::Opening;
@@ -41,7 +41,7 @@ pub fn encrypt<'a>(
     ensures bytes { λ _. ⌜ now (out .exit) ≡ outOf (eventSeal (key .0) (lent (now (frame .entry)) (now (work .entry)) (now (kinds .entry)) (now (spans .entry)) (now (ids .entry)) (now (rssis .entry)) (now (snrs .entry))) payload) (now (out .entry)) ⌝ }
 {
     let events = payload.events;
-    match body::encrypt(
+    match content::encrypt(
         events,
         key,
         true,
@@ -60,7 +60,7 @@ pub fn encrypt<'a>(
         Written::Bytes(n) => EventRead::Payload(EventPayload {
             timestamp: payload.timestamp,
             relay_id: payload.relay_id,
-            events: Body::of(0, n),
+            events: Content::of(0, n),
         }),
     }
 }
@@ -71,11 +71,11 @@ fn opened(payload: EventPayload, o: Opened) -> EventOpened
     match o {
         Opened::Refused(n) => EventOpened::Refused(n),
         Opened::AlreadyOpen => EventOpened::AlreadyOpen,
-        Opened::Opened { body, opening } => EventOpened::Opened {
+        Opened::Opened { content, opening } => EventOpened::Opened {
             payload: EventPayload {
                 timestamp: payload.timestamp,
                 relay_id: payload.relay_id,
-                events: body,
+                events: content,
             },
             opening,
         },
@@ -90,7 +90,7 @@ pub fn decrypt(payload: EventPayload, key: Aes128Key, frame: &[u8], work: &mut [
     let events = payload.events;
     opened(
         payload,
-        body::decrypt(
+        content::decrypt(
             events,
             key,
             true,
@@ -107,5 +107,5 @@ pub fn decode<'a>(payload: EventPayload, frame: &'a [u8], work: &'a [u8]) -> Eve
     ensures { λ r. ⌜ r ≡ eventOpened payload (decodeOf Bool.true (payload .events) (now (frame .entry)) (now (work .entry))) ⌝ }
 {
     let events = payload.events;
-    opened(payload, body::decode(events, true, frame, work))
+    opened(payload, content::decode(events, true, frame, work))
 }

@@ -1,7 +1,7 @@
 // A mesh packet sealed and opened: its event or command, and nothing of an uplink or a downlink.
 ghost use mathlib.Core.Path.{_≡_};
 ghost use Rattle.base.specs.Answers.{outOf};
-ghost use Rattle.contents.specs.Body.{lent};
+ghost use Rattle.contents.specs.Content.{lent};
 ghost use Rattle.packets.specs.Read.{carrying};
 ghost use Rattle.sealing.specs.Mesh.{nothingToOpen, sealOf, meshSealed, ofEventOpened, ofCommandOpened, meshDecrypted, meshWork, meshDecoded};
 use crate::command;

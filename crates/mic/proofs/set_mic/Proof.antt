@@ -1,7 +1,7 @@
 -- `mic::set_mic` meets its contract. Assumes nothing.
 use denote.Ref.{now}
 use Rattle.fips197.specs.Aes.{aes}
-use Rattle.contents.specs.Body.{lent}
+use Rattle.contents.specs.Content.{lent}
 use Rattle.mic.proofs.Steps.{set-refused, set-made}
 use borrow.Author.Needs.{needs}
 use Rattle.mic.proofs.set_mic.Statement.{statement}

@@ -2,7 +2,7 @@
 use denote.Ref.{now}
 use borrow.Author.Tests.{not-true, not-false}
 use Rattle.fips197.specs.Aes.{aes}
-use Rattle.contents.specs.Body.{lent}
+use Rattle.contents.specs.Content.{lent}
 use Rattle.mic.proofs.Steps.{kinds-first, no-mic, not-validated, valid, invalid}
 use borrow.Author.Needs.{needs}
 use Rattle.mic.proofs.validate_mic.Statement.{statement}

@@ -5,7 +5,7 @@ use Rattle.base.specs.Answers.{numberIn, outOf}
 use Rattle.packets.specs.Read.{meshSays}
 use Rattle.packets.specs.declared.mesh.MeshRead.{MeshRead}
 use Rattle.keys.specs.declared.Aes128Key.{Aes128Key}
-use Rattle.contents.specs.Body.{lent}
+use Rattle.contents.specs.Content.{lent}
 use Rattle.mesh_c.specs.Face.{numbersSealed, numbersSeal, placedLeft}
 use borrow.Author.Needs.{needs}
 use Rattle.mesh_c.proofs.frame.mesh_seal.Statement.{statement}

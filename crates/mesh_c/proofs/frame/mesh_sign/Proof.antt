@@ -7,7 +7,7 @@ use Rattle.packets.specs.Read.{meshSays}
 use Rattle.packets.specs.declared.mesh.MeshRead.{MeshRead}
 use Rattle.fips197.specs.Aes.{aes}
 use Rattle.keys.specs.declared.Aes128Key.{Aes128Key}
-use Rattle.contents.specs.Body.{lent}
+use Rattle.contents.specs.Content.{lent}
 use Rattle.mesh_c.specs.Face.{numbersSigned, signedLeft}
 use borrow.Author.Needs.{needs}
 use Rattle.mesh_c.proofs.frame.mesh_sign.Statement.{statement}

@@ -5,7 +5,7 @@ use mir.Facts.{toZ-ofZ}
 use Rattle.base.specs.Answers.{numberIn, leftBy}
 use Rattle.fips197.specs.Aes.{aes}
 use Rattle.keys.specs.declared.Aes128Key.{Aes128Key}
-use Rattle.contents.specs.Body.{lent}
+use Rattle.contents.specs.Content.{lent}
 use Rattle.mic.specs.Mic.{validSays}
 use Rattle.mic.specs.declared.Validated.{Validated}
 use Rattle.numbers.specs.Numbers.{bit}

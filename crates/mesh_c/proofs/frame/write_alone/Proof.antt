@@ -5,7 +5,7 @@ use mir.Facts.{toZ-ofZ}
 use lib.ListN.{length}
 use Rattle.base.specs.Answers.{answerOf, outOf, refused}
 use Rattle.base.proofs.Answers.{out-length}
-use Rattle.contents.specs.Body.{lent}
+use Rattle.contents.specs.Content.{lent}
 use Rattle.links.specs.Write.{limitedOf}
 use Rattle.packets.specs.Write.{payloadWire}
 use Rattle.packets.specs.declared.mesh.MeshPacket.{MeshPacket}

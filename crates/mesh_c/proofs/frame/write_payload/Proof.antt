@@ -2,7 +2,7 @@
 use mathlib.Core.Path.{sym, ap, _∙_}
 use denote.Ref.{now}
 use Rattle.base.specs.Answers.{answerOf, outOf}
-use Rattle.contents.specs.Body.{lent}
+use Rattle.contents.specs.Content.{lent}
 use Rattle.links.specs.Write.{limitedOf}
 use Rattle.packets.specs.Write.{payloadWire}
 use Rattle.packets.specs.declared.mesh.Payload.{Payload}

@@ -16,11 +16,11 @@ returns-2 c =
 
 returns-3 : tie.Need-returns-3
 returns-3 c =
-    rw (c .before .before .before .before .before .enum-told3 .given .1, c .before .before .before .to-u32 .ensures, c .before .to-u322 .ensures, c .body-of .ensures)
+    rw (c .before .before .before .before .before .enum-told3 .given .1, c .before .before .before .to-u32 .ensures, c .before .to-u322 .ensures, c .content-of .ensures)
 
 returns-4 : tie.Need-returns-4
 returns-4 c =
-    rw (c .before .before .before .before .before .enum-told4 .given .1, c .before .before .before .to-u323 .ensures, c .before .to-u324 .ensures, c .body-of2 .ensures)
+    rw (c .before .before .before .before .before .enum-told4 .given .1, c .before .before .before .to-u323 .ensures, c .before .to-u324 .ensures, c .content-of2 .ensures)
 
 pub payload-of-spec : {M : Type 1} → statement M
 payload-of-spec = tie.close (tie.spec (λ c. search needs) (λ c κs. search needs) (λ c. search needs) (λ c κs. search needs) (λ c. search needs) (λ c. search needs) (λ c κs. search needs) (λ c. search needs) (λ c κs. search needs) (λ c κs. search needs) (λ c. search needs) (λ c. search needs) (λ c κs. search needs) (λ c. search needs) (λ c κs. search needs) (λ c κs. search needs) returns returns-2 returns-3 returns-4)

@@ -15,11 +15,11 @@ returns-2 c =
 
 returns-3 : tie.Need-returns-3
 returns-3 c =
-    c .body-place .ensures ∙ ap payloadPlace (sym (c .before .before .payload3 .given .1))
+    c .content-place .ensures ∙ ap payloadPlace (sym (c .before .before .payload3 .given .1))
 
 returns-4 : tie.Need-returns-4
 returns-4 c =
-    c .body-place2 .ensures ∙ ap payloadPlace (sym (c .before .before .payload4 .given .1))
+    c .content-place2 .ensures ∙ ap payloadPlace (sym (c .before .before .payload4 .given .1))
 
 pub place-of-spec : {M : Type 1} → statement M
 place-of-spec = tie.close (tie.spec (λ c. search needs) (λ c. search needs) (λ c. search needs) (λ c κs. search needs) (λ c. search needs) (λ c κs. search needs) returns returns-2 returns-3 returns-4)

@@ -5,7 +5,7 @@ use mathlib.Core.Path.{sym, ap, _∙_}
 use denote.Ref.{now}
 use Rattle.base.specs.Answers.{refused}
 use Rattle.base.proofs.Answers.{out-length}
-use Rattle.contents.specs.Body.{lent}
+use Rattle.contents.specs.Content.{lent}
 use Rattle.links.proofs.Steps.{same-frame}
 use Rattle.packets.specs.Write.{packetFrame}
 use Rattle.numbers.specs.Numbers.{ifPacket, numbersFrame}

@@ -6,7 +6,7 @@ use denote.Ref.{now}
 use Rattle.base.proofs.Answers.{out-length}
 use Rattle.fields.specs.declared.header.PayloadType.the-variants.{Uplink}
 use Rattle.fields.specs.declared.header.TypeRead.{TypeRead}
-use Rattle.contents.specs.Body.{lent}
+use Rattle.contents.specs.Content.{lent}
 use Rattle.links.proofs.Steps.{same-frame}
 use Rattle.packets.specs.Read.{ofMesh}
 use Rattle.numbers.specs.Numbers.{typedBy}

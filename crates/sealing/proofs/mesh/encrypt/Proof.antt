@@ -6,7 +6,7 @@ use native.Mathlib.Omega.{arith}
 use denote.Ref.{now}
 use Rattle.base.specs.Answers.{outOf}
 use Rattle.base.proofs.Answers.{room, out-length}
-use Rattle.contents.specs.Body.{lent}
+use Rattle.contents.specs.Content.{lent}
 use Rattle.sealing.specs.Mesh.{sealOf, ofEventSealed, ofCommandSealed, meshSealed}
 use Rattle.packets.specs.declared.mesh.Payload.{Payload}
 use Rattle.packets.specs.declared.mesh.MeshRead.the-variants.{Mesh}

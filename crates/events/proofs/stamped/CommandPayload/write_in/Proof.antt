@@ -6,7 +6,7 @@ use denote.Ref.{now}
 use Rattle.base.proofs.Answers.{out-length}
 use Rattle.links.specs.Write.{prefixed, withMic}
 use Rattle.links.proofs.Steps.{same-frame}
-use Rattle.contents.specs.Body.{lent}
+use Rattle.contents.specs.Content.{lent}
 use Rattle.events.specs.Write.{stampedWire, commandWire}
 use Rattle.events.specs.declared.stamped.Stamped.{Stamped}
 use borrow.Author.Needs.{needs}
