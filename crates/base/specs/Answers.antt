@@ -40,34 +40,34 @@ leftBy f old (value a) = f a
 leftBy f old (number n) = old
 
 -- what is to be written, or the first refusal
-pub data Frame : Type 0 where
-  bytes : List ℕ → Frame
-  refused : ℕ → Frame
+pub data Writing : Type 0 where
+  bytes : List ℕ → Writing
+  refused : ℕ → Writing
 
 -- the refusal's number, 0 for none
-abbrev pub frameNumber : Frame → ℕ
+abbrev pub frameNumber : Writing → ℕ
 frameNumber (bytes w) = 0
 frameNumber (refused n) = n
 
 -- what follows a chain of tests that ends in a number, where that is 0
-abbrev pub unlessRefused : ℕ → Frame → Frame
+abbrev pub unlessRefused : ℕ → Writing → Writing
 unlessRefused n f = pick (eqb n 0) f (refused n)
 
 -- of a call that makes an array: the answer, and beside it the bytes, or n zeros where it refuses
-abbrev pub checkedOf : Frame → Checked
+abbrev pub checkedOf : Writing → Checked
 checkedOf (bytes w) = checked.Accepted
 checkedOf (refused n) = checked.Refused n
 
-abbrev pub bytesOr : ℕ → Frame → List ℕ
+abbrev pub bytesOr : ℕ → Writing → List ℕ
 bytesOr n (bytes w) = w
 bytesOr n (refused k) = replicate n 0
 
 -- what a writer answers: 21 comes last, where the output has too few places
-unfoldable pub answerOf : Frame → List ℕ → Written
+unfoldable pub answerOf : Writing → List ℕ → Written
 answerOf (refused n) out = Refused n
 answerOf (bytes w) out = pick (ltb (length out) (length w)) (Refused outputShort) (Bytes (length w))
 
 -- what it leaves in the output: all as before when it refuses, and otherwise all beyond what is written
-unfoldable pub outOf : Frame → List ℕ → List ℕ
+unfoldable pub outOf : Writing → List ℕ → List ℕ
 outOf (refused n) out = out
 outOf (bytes w) out = pick (ltb (length out) (length w)) out (w ++ drop (length w) out)

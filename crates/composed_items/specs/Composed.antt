@@ -8,7 +8,7 @@ use lib.ListN.{length, getD}
 use Rattle.base.specs.Pick.{pick}
 use Rattle.base.specs.Lists.{from, imap, orElse, firstOf, joined}
 use Rattle.base.specs.Numbers.{typeLarge, itemLong, heartbeatLength, outside, itemMost, pathMost}
-use Rattle.base.specs.Answers.{Frame, bytes, unlessRefused}
+use Rattle.base.specs.Answers.{Writing, bytes, unlessRefused}
 use Rattle.wire.specs.Part.{partOf}
 use Rattle.wire.specs.Run.{runAt, runRefusal}
 use Rattle.fields.specs.Path.{badEntry, sixOf}
@@ -113,5 +113,5 @@ unfoldable pub lentBack : Bool → List ℕ → Lists
 lentBack ev s = lists (map kindAndTag (listedItems ev s)) (map placeAndLength (listedItems ev s)) [] [] [] s
 
 -- ---- what is written of n composed items, or the first refusal
-unfoldable pub composedWire : Bool → Lists → ℕ → Frame
+unfoldable pub composedWire : Bool → Lists → ℕ → Writing
 composedWire ev l n = unlessRefused (verdictOf ev l n) (bytes (composedBytes ev l n))

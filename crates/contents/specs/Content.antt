@@ -6,7 +6,7 @@ use lib.Dec.{eqb}
 use lib.IntN.{ℤ}
 use lib.ListN.{length}
 use Rattle.base.specs.Pick.{pick}
-use Rattle.base.specs.Answers.{Frame, bytes, unlessRefused}
+use Rattle.base.specs.Answers.{Writing, bytes, unlessRefused}
 use Rattle.wire.specs.Run.{runRefusal, runBytes}
 use Rattle.kept_items.specs.Kept.{openBytes}
 use Rattle.heartbeats.specs.Paths.{paths}
@@ -70,5 +70,5 @@ contentBytes ev l (Sealed r) = runBytes (l .frame) r
 contentBytes ev l (Open h r) = openBytes ev (runBytes (heldIn h (l .frame) (work l)) r)
 contentBytes ev l (Items n) = composedBytes ev (l .lists) n
 
-unfoldable pub contentWire : Bool → Lent → Content → Frame
+unfoldable pub contentWire : Bool → Lent → Content → Writing
 contentWire ev l b = unlessRefused (contentRefusal ev l b) (bytes (contentBytes ev l b))

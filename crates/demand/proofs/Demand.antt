@@ -9,7 +9,7 @@ use lib.ListN.{length}
 use borrow.Author.Tests.{lt-ltb, le-ltb}
 use Rattle.base.specs.Numbers.{hopsNone, hopsMany}
 use Rattle.base.specs.Lists.{Bytes}
-use Rattle.base.specs.Answers.{Frame, bytes, refused}
+use Rattle.base.specs.Answers.{Writing, bytes, refused}
 use Rattle.wire.specs.Run.{runBytes}
 use Rattle.fips197.specs.Aes.{aes}
 use Rattle.fields.specs.Header.{codeOf, headerByte}
@@ -57,7 +57,7 @@ module _ (s : List ℕ) (e : Edit) where
       edit-uncounted (aes (e .key)) s p hopsMany (e .count) h (simp (le-ltb (e .count) 1 k, lt-ltb 8 (e .count) l))
 
   pub left : (n : ℕ) → edited s e ≡ refused n → after s e ≡ s
-  left n h = ap (λ (f : Frame). leaves f s) h
+  left n h = ap (λ (f : Writing). leaves f s) h
 
 module _ (s : List ℕ) (p : MeshPacket) (small : Bytes s) (read : meshOf s ≡ Mesh p) (e : Edit) (least : 1 ≤ e .count) (most : e .count ≤ 8) where
   -- the new header byte, frame and packet, which the proofs speak of
@@ -78,7 +78,7 @@ module _ (s : List ℕ) (p : MeshPacket) (small : Bytes s) (read : meshOf s ≡ 
   answers = edit-gives s p small read e v byte
 
   is : after s e ≡ W
-  is = ap (λ (f : Frame). leaves f s) answers
+  is = ap (λ (f : Writing). leaves f s) answers
 
   holds : meshOf (after s e) ≡ Mesh Q
   holds = ap meshOf is ∙ read-gives s p small read e v byte

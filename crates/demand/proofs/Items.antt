@@ -7,7 +7,7 @@ use lib.Dec.{ltb, eqb}
 use lib.ListN.{length}
 use Rattle.base.specs.Pick.{pick}
 use Rattle.base.specs.Numbers.{frameLong, outputShort, payloadMost}
-use Rattle.base.specs.Answers.{Frame, bytes, refused, outOf, unlessRefused}
+use Rattle.base.specs.Answers.{Writing, bytes, refused, outOf, unlessRefused}
 use Rattle.wire.specs.Run.{runRefusal, runBytes}
 use Rattle.wire.specs.declared.run.Run.{Run}
 use Rattle.items.specs.Items.{pieces, openingOf, nothing}
@@ -52,12 +52,12 @@ module _ (f g : List ℕ) (r : Run) (long : length g ≡ length f) (same : runBy
     work-by : (b : Content) → Placed r b → (k : List ℕ) → workAfter key ev relay time b g k ≡ workAfter key ev relay time b f k
     unfolding workAfter
     work-by _ nowhere k = refl
-    work-by _ there k = ap (λ (x : Frame). outOf x k) seal-same
+    work-by _ there k = ap (λ (x : Writing). outOf x k) seal-same
 
     decrypt-by : (b : Content) → Placed r b → (k : List ℕ) → decryptOf key ev relay time b g k ≡ decryptOf key ev relay time b f k
     unfolding decryptOf
     decrypt-by _ nowhere k = refl
-    decrypt-by _ there k = ap (λ (x : Frame). openedBy ev x k) seal-same
+    decrypt-by _ there k = ap (λ (x : Writing). openedBy ev x k) seal-same
 
   decode-by : (ev : Bool) (b : Content) → Placed r b → (k : List ℕ) → decodeOf ev b g k ≡ decodeOf ev b f k
   unfolding decodeOf readSealed
@@ -76,7 +76,7 @@ module _ (f g : List ℕ) (r : Run) (long : length g ≡ length f) (same : runBy
   held-by h a true k e = refl
   held-by h a false k e = e
 
-  in-work : (ev : Bool) (x : Frame) (k m : List ℕ) → opened (openedBy ev x k) g m ≡ opened (openedBy ev x k) f m
+  in-work : (ev : Bool) (x : Writing) (k m : List ℕ) → opened (openedBy ev x k) g m ≡ opened (openedBy ev x k) f m
   unfolding openedBy
   in-work ev (refused n) k m = refl
   in-work ev (bytes v) k m =

@@ -5,7 +5,7 @@ use mathlib.Core.List.{List, [], _∷_, foldl}
 use mathlib.Core.Option.{Option, none, some}
 use Rattle.base.specs.Pick.{pick}
 use Rattle.base.specs.Lists.{Bytes}
-use Rattle.base.specs.Answers.{Frame, bytes, refused}
+use Rattle.base.specs.Answers.{Writing, bytes, refused}
 use Rattle.fips197.specs.Aes.{aes}
 use Rattle.fields.specs.Header.{headerByte}
 use Rattle.fields.specs.declared.header.HeaderByte.{HeaderByte}
@@ -36,12 +36,12 @@ module _ (s : List ℕ) (small : Bytes s) where
         ∙ sym (edit-gives s p small x e u z)
 
     first : (p : MeshPacket) → meshOf s ≡ Mesh p → (b : HeaderByte) → headerByte (carryingCount p (d .count) .mhdr) ≡ b → edited (after s d) e ≡ edited s e
-    first p x (NoByte k) y = ap (λ (f : Frame). edited (leaves f s) e) (edit-uncounted (aes (d .key)) s p k (d .count) x y)
+    first p x (NoByte k) y = ap (λ (f : Writing). edited (leaves f s) e) (edit-uncounted (aes (d .key)) s p k (d .count) x y)
     first p x (Byte v) y =
-        ap (λ (f : Frame). edited (leaves f s) e) (edit-gives s p small x d v y) ∙ second p x v y (headerByte (carryingCount p (e .count) .mhdr)) refl
+        ap (λ (f : Writing). edited (leaves f s) e) (edit-gives s p small x d v y) ∙ second p x v y (headerByte (carryingCount p (e .count) .mhdr)) refl
 
     by-read : (r : MeshRead) → meshOf s ≡ r → edited (after s d) e ≡ edited s e
-    by-read (Refused k) x = ap (λ (f : Frame). edited (leaves f s) e) (edit-unread (aes (d .key)) s k (d .count) x)
+    by-read (Refused k) x = ap (λ (f : Writing). edited (leaves f s) e) (edit-unread (aes (d .key)) s k (d .count) x)
     by-read (Mesh p) x = first p x (headerByte (carryingCount p (d .count) .mhdr)) refl
 
     pub same-answer : edited (after s d) e ≡ edited s e
@@ -49,10 +49,10 @@ module _ (s : List ℕ) (small : Bytes s) where
 
   -- one edit more
   module _ (e : Edit) where
-    one-by : (o : Option Edit) (x : Frame) → edited (afterOnly s o) e ≡ x → leaves x (afterOnly s o) ≡ afterOnly s (pick (accepts x) (some e) o)
+    one-by : (o : Option Edit) (x : Writing) → edited (afterOnly s o) e ≡ x → leaves x (afterOnly s o) ≡ afterOnly s (pick (accepts x) (some e) o)
     one-by o (refused k) h = refl
-    one-by none (bytes v) h = sym (ap (λ (f : Frame). leaves f s) h)
-    one-by (some d) (bytes v) h = sym (ap (λ (f : Frame). leaves f s) (sym (same-answer d e) ∙ h))
+    one-by none (bytes v) h = sym (ap (λ (f : Writing). leaves f s) h)
+    one-by (some d) (bytes v) h = sym (ap (λ (f : Writing). leaves f s) (sym (same-answer d e) ∙ h))
 
     one : (o : Option Edit) → after (afterOnly s o) e ≡ afterOnly s (pick (accepts (edited (afterOnly s o) e)) (some e) o)
     one o = one-by o (edited (afterOnly s o) e) refl

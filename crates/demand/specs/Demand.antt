@@ -7,7 +7,7 @@ use mathlib.Core.Option.{Option, none, some}
 use lib.Dec.{ltb, leb, eqb}
 use lib.ListN.{length, getD}
 use Rattle.base.specs.Pick.{pick}
-use Rattle.base.specs.Answers.{Frame, bytes, refused}
+use Rattle.base.specs.Answers.{Writing, bytes, refused}
 use Rattle.base.specs.Blocks.{Block}
 use Rattle.fips197.specs.Aes.{aes}
 use Rattle.items.specs.Items.{Piece, pieces}
@@ -40,13 +40,13 @@ pub record Edit : Type 0 where
   pub block : Block key
 
 -- what it answers, and what it leaves in the buffer
-abbrev pub edited : List ℕ → Edit → Frame
+abbrev pub edited : List ℕ → Edit → Writing
 edited s e = hopEdit (aes (e .key)) s (e .count)
 
 abbrev pub after : List ℕ → Edit → List ℕ
 after s e = leaves (edited s e) s
 
-abbrev pub accepts : Frame → Bool
+abbrev pub accepts : Writing → Bool
 accepts (bytes w) = true
 accepts (refused n) = false
 

@@ -10,7 +10,7 @@ use lib.ListN.{length, getD}
 use borrow.Author.Tests.{le-ltb, ltb-false}
 use Rattle.base.proofs.Answers.{unless-bytes}
 use Rattle.base.specs.Lists.{Bytes, from}
-use Rattle.base.specs.Answers.{Frame, bytes, refused}
+use Rattle.base.specs.Answers.{Writing, bytes, refused}
 use Rattle.wire.specs.Number.{beBytes}
 use Rattle.wire.proofs.Laws.Number.{be-length, bytes-of}
 use Rattle.fields.proofs.Laws.Bytes.{none, _▸_, small}
@@ -59,7 +59,7 @@ module _ (t r : ℕ) (v : List ℕ) (at : ℕ) (ht : t < 4294967296) (hr : r < 4
 
 -- ---- what a body that is written is made of
 
-headed-bytes : (h : List ℕ) (f : Frame) (w : List ℕ) → headedBy h f ≡ bytes w → (v : List ℕ) × (f ≡ bytes v) × (w ≡ h ++ v)
+headed-bytes : (h : List ℕ) (f : Writing) (w : List ℕ) → headedBy h f ≡ bytes w → (v : List ℕ) × (f ≡ bytes v) × (w ≡ h ++ v)
 headed-bytes h (bytes v) w e = (v, refl, cc)
 headed-bytes h (refused n) w e = let z : _≡_ {A = ℕ} 0 1 = cc in absurd (omega arith)
 

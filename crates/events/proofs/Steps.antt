@@ -7,7 +7,7 @@ use mathlib.Core.List.{List, [], _∷_, _++_}
 use lib.ListN.{length, length-append}
 use borrow.Author.Tests.{lt-ltb, le-ltb}
 use Rattle.base.specs.Numbers.{frameLong, outputShort, micMissing}
-use Rattle.base.specs.Answers.{Frame, bytes, refused, answerOf, outOf}
+use Rattle.base.specs.Answers.{Writing, bytes, refused, answerOf, outOf}
 use Rattle.base.specs.declared.Written.{Written}
 use Rattle.base.specs.declared.Written.the-variants.{Bytes, Refused}
 use Rattle.base.proofs.Answers.{room, no-room, is-refused, not-refused}
@@ -105,14 +105,14 @@ module _ (ev : Bool) (l : Lent) (p : Stamped) (o : List ℕ) (k : ℕ) (ek : k �
     body : List ℕ
     body = contentBytes ev l (p .content)
 
-    as-body : (r : Written) (x : List ℕ) (f : Frame) → limited (head ++ body) ≡ f → Outcome r x f o → Outcome r x (limitedOf (stampedWire ev l p)) o
+    as-body : (r : Written) (x : List ℕ) (f : Writing) → limited (head ++ body) ≡ f → Outcome r x f o → Outcome r x (limitedOf (stampedWire ev l p)) o
     unfolding head body
     as-body r x f e = same-frame _ f r x o (ap limitedOf (wire-bytes z) ∙ e)
 
-    as-frame : (has : Bool) (mic first : ℕ) (r : Written) (x : List ℕ) (f : Frame) → withMic has mic (bytes (first ∷ (head ++ body))) ≡ f → Outcome r x f o
+    as-frame : (has : Bool) (mic first : ℕ) (r : Written) (x : List ℕ) (f : Writing) → withMic has mic (bytes (first ∷ (head ++ body))) ≡ f → Outcome r x f o
         → Outcome r x (withMic has mic (prefixed first (stampedWire ev l p))) o
     unfolding head body
-    as-frame has mic first r x f e = same-frame _ f r x o (ap (λ (g : Frame). withMic has mic (prefixed first g)) (wire-bytes z) ∙ e)
+    as-frame has mic first r x f e = same-frame _ f r x o (ap (λ (g : Writing). withMic has mic (prefixed first g)) (wire-bytes z) ∙ e)
 
     eight : length head ≡ 8
     unfolding head

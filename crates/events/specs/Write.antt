@@ -3,7 +3,7 @@
 use Prim.Native.Nat.{ℕ}
 use mathlib.Core.Bool.{Bool, true, false}
 use mathlib.Core.List.{List, _++_}
-use Rattle.base.specs.Answers.{Frame}
+use Rattle.base.specs.Answers.{Writing}
 use Rattle.wire.specs.Number.{beBytes}
 use Rattle.contents.specs.Content.{Lent, contentWire}
 use Rattle.events.specs.declared.stamped.EventPayload.{EventPayload}
@@ -15,7 +15,7 @@ use Rattle.links.specs.Write.{headedBy}
 unfoldable pub stamp : ℕ → ℕ → List ℕ
 stamp time relay = beBytes 4 time ++ beBytes 4 relay
 
-unfoldable pub stampedWire : Bool → Lent → Stamped → Frame
+unfoldable pub stampedWire : Bool → Lent → Stamped → Writing
 stampedWire ev l p = headedBy (stamp (p .timestamp) (p .«relay_id»)) (contentWire ev l (p .content))
 
 abbrev pub stampedOfEvent : EventPayload → Stamped
@@ -24,8 +24,8 @@ stampedOfEvent p = record { timestamp = p .timestamp; «relay_id» = p .«relay_
 abbrev pub stampedOfCommand : CommandPayload → Stamped
 stampedOfCommand p = record { timestamp = p .timestamp; «relay_id» = p .«relay_id»; content = p .commands }
 
-unfoldable pub eventWire : Lent → EventPayload → Frame
+unfoldable pub eventWire : Lent → EventPayload → Writing
 eventWire l p = stampedWire true l (stampedOfEvent p)
 
-unfoldable pub commandWire : Lent → CommandPayload → Frame
+unfoldable pub commandWire : Lent → CommandPayload → Writing
 commandWire l p = stampedWire false l (stampedOfCommand p)

@@ -5,7 +5,7 @@ use lib.Dec.{ltb, eqb}
 use lib.ListN.{getD}
 use Rattle.base.specs.Pick.{pick}
 use Rattle.base.specs.Numbers.{uplinkIdLarge, drLarge, delayNone, txPowerLarge, delayLarge}
-use Rattle.base.specs.Answers.{Frame, bytes, refused, unlessRefused, checkedOf, bytesOr}
+use Rattle.base.specs.Answers.{Writing, bytes, refused, unlessRefused, checkedOf, bytesOr}
 use Rattle.fields.specs.Limits.{uplinkIdMost, drMost, txPowerMost, delayLeast, delayMost}
 use Rattle.fields.specs.Freq.{hertzOf, freqWire}
 use Rattle.fields.specs.Signal.{rssiOf, snrOf, rssiByte, snrByte}
@@ -40,21 +40,21 @@ upOf b =
     }
 
 -- rssi, snr and what follows them; also of a path entry
-abbrev pub afterSnr : List ℕ → List ℕ → ℕ → SignalByte → Frame
+abbrev pub afterSnr : List ℕ → List ℕ → ℕ → SignalByte → Writing
 afterSnr before after r (NoByte n) = refused n
 afterSnr before after r (Byte s) = bytes (before ++ r ∷ s ∷ after)
 
-abbrev pub afterRssi : List ℕ → List ℕ → SignalByte → SignalByte → Frame
+abbrev pub afterRssi : List ℕ → List ℕ → SignalByte → SignalByte → Writing
 afterRssi before after s (NoByte n) = refused n
 afterRssi before after s (Byte r) = afterSnr before after r s
 
 -- 8 to 13 ascending
-unfoldable pub upWire : UplinkMetadata → Frame
+unfoldable pub upWire : UplinkMetadata → Writing
 upWire m =
     unlessRefused (idRefusal (m .«uplink_id») (m .dr))
     (afterRssi (idBytes (m .«uplink_id») (m .dr)) (m .channel ∷ []) (snrByte (m .snr)) (rssiByte (m .rssi)))
 
-abbrev pub upAnswer : Frame → UplinkBytes
+abbrev pub upAnswer : Writing → UplinkBytes
 upAnswer f = record { answer = checkedOf f; bytes = bytesOr 5 f }
 
 unfoldable pub upBytes : UplinkMetadata → UplinkBytes
@@ -80,15 +80,15 @@ downRefusal m =
     (pick (ltb txPowerMost (m .«tx_power»)) txPowerLarge (pick (ltb delayMost (m .delay)) delayLarge 0)))
     (idRefusal (m .«uplink_id») (m .dr))
 
-abbrev pub afterFreq : DownlinkMetadata → Frame → Frame
+abbrev pub afterFreq : DownlinkMetadata → Writing → Writing
 afterFreq m (refused n) = refused n
 afterFreq m (bytes f) = bytes (idBytes (m .«uplink_id») (m .dr) ++ f ++ (m .«tx_power» * 16 + (m .delay - 1)) ∷ [])
 
 -- then 17 and 18 on the frequency
-unfoldable pub downWire : DownlinkMetadata → Frame
+unfoldable pub downWire : DownlinkMetadata → Writing
 downWire m = unlessRefused (downRefusal m) (afterFreq m (freqWire (m .frequency)))
 
-abbrev pub downAnswer : Frame → DownlinkBytes
+abbrev pub downAnswer : Writing → DownlinkBytes
 downAnswer f = record { answer = checkedOf f; bytes = bytesOr 6 f }
 
 unfoldable pub downBytes : DownlinkMetadata → DownlinkBytes

@@ -5,7 +5,7 @@ use lib.Dec.{eqb}
 use lib.ListN.{getD}
 use Rattle.base.specs.Pick.{pick}
 use Rattle.base.specs.Numbers.{entryBytes}
-use Rattle.base.specs.Answers.{Frame, frameNumber, checkedOf, bytesOr}
+use Rattle.base.specs.Answers.{Writing, frameNumber, checkedOf, bytesOr}
 use Rattle.wire.specs.Number.{beOf, beBytes}
 use Rattle.fields.specs.Signal.{rssiOf, snrOf, rssiByte, snrByte}
 use Rattle.fields.specs.Meta.{afterRssi}
@@ -21,10 +21,10 @@ pathOf b =
     }
 
 -- 10 to 13
-unfoldable pub pathWire : RelayPath → Frame
+unfoldable pub pathWire : RelayPath → Writing
 pathWire p = afterRssi (beBytes 4 (p .«relay_id»)) [] (snrByte (p .snr)) (rssiByte (p .rssi))
 
-abbrev pub pathAnswer : Frame → PathBytes
+abbrev pub pathAnswer : Writing → PathBytes
 pathAnswer f = record { answer = checkedOf f; bytes = bytesOr entryBytes f }
 
 unfoldable pub pathBytes : RelayPath → PathBytes

@@ -12,7 +12,7 @@ use borrow.Author.Tests.{eqb-true}
 use Rattle.base.specs.Pick.{pick}
 use Rattle.base.specs.Numbers.{rssiLarge, rssiSmall, snrSmall, snrLarge}
 use Rattle.base.specs.Lists.{from, joined}
-use Rattle.base.specs.Answers.{Frame, bytes, refused, checkedOf, frameNumber}
+use Rattle.base.specs.Answers.{Writing, bytes, refused, checkedOf, frameNumber}
 use Rattle.base.specs.declared.Checked.the-variants.{Accepted, Refused as No}
 use Rattle.base.proofs.Lists.{from-length, from-at}
 use Rattle.wire.specs.Number.{beBytes}
@@ -84,7 +84,7 @@ pub told-bad : (p : RelayPath) (w : PathBytes) → w ≡ pathBytes p → (n : �
 unfolding pathBytes badEntry
 told-bad p w e n a = go (pathWire p) (sym (ap (λ (x : PathBytes). x .answer) e) ∙ a)
   where
-    go : (f : Frame) → checkedOf f ≡ No n → n ≡ frameNumber f
+    go : (f : Writing) → checkedOf f ≡ No n → n ≡ frameNumber f
     go (bytes v) q = absurd (let z : _≡_ {A = ℕ} 0 1 = cc in omega arith)
     go (refused k) q = cc
 
@@ -125,7 +125,7 @@ pub told-good : (p : RelayPath) (w : PathBytes) → w ≡ pathBytes p → w .ans
 unfolding pathBytes badEntry
 told-good p w e a = go (pathWire p) (sym (ap (λ (x : PathBytes). x .answer) e) ∙ a)
   where
-    go : (f : Frame) → checkedOf f ≡ Accepted → 0 ≡ frameNumber f
+    go : (f : Writing) → checkedOf f ≡ Accepted → 0 ≡ frameNumber f
     go (bytes v) q = refl
     go (refused k) q = absurd (let z : _≡_ {A = ℕ} 0 1 = cc in omega arith)
 

@@ -12,7 +12,7 @@ use borrow.Author.Tests.{lt-ltb, le-ltb, ne-eqb, ltb-false}
 use Rattle.base.specs.Pick.{pick}
 use Rattle.base.specs.Numbers.{itemLong, outputShort, outside, pathMost}
 use Rattle.base.specs.Lists.{orElse, firstOf, joined}
-use Rattle.base.specs.Answers.{Frame, bytes, refused, answerOf, outOf}
+use Rattle.base.specs.Answers.{Writing, bytes, refused, answerOf, outOf}
 use Rattle.base.specs.declared.Written.{Written}
 use Rattle.base.specs.declared.Written.the-variants.{Bytes as Done, Refused as NotDone}
 use Rattle.base.proofs.Lists.{listed}
@@ -181,7 +181,7 @@ module _ (ps : List RelayPath) (o : List ℕ) where
   abbrev verdicts : Bool → Bool → Bool → Written
   verdicts s t u = pick s (pick t (NotDone itemLong) (pick u (NotDone outputShort) (Done (length ps * 6)))) (NotDone bad)
 
-  abbrev wires : Bool → Bool → Frame
+  abbrev wires : Bool → Bool → Writing
   wires s t = pick s (pick t (refused itemLong) (bytes w)) (refused bad)
 
   pub verdict-is : beatVerdict bad (length ps) (length o) ≡ answerOf (beatWire ps) o

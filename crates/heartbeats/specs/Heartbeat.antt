@@ -7,7 +7,7 @@ use lib.ListN.{length, getD, drop}
 use Rattle.base.specs.Pick.{pick}
 use Rattle.base.specs.Numbers.{itemLong, heartbeatLength, outputShort, outside, itemMost, pathMost}
 use Rattle.base.specs.Lists.{orElse, firstOf, joined}
-use Rattle.base.specs.Answers.{Answer, value, number, Frame, bytes, refused, unlessRefused}
+use Rattle.base.specs.Answers.{Answer, value, number, Writing, bytes, refused, unlessRefused}
 use Rattle.fields.specs.Path.{pathOf, badEntry, sixOf}
 use Rattle.fields.specs.declared.path.RelayPath.{RelayPath}
 use Rattle.heartbeats.specs.declared.heartbeat.HeartbeatPayload.{HeartbeatPayload}
@@ -65,7 +65,7 @@ entryRead v i =
 -- ---- writing
 
 -- the first bad entry's number, 19 for more than 42 entries, or the bytes of all entries, one behind the other
-unfoldable pub beatWire : List RelayPath → Frame
+unfoldable pub beatWire : List RelayPath → Writing
 beatWire ps = unlessRefused (firstOf badEntry ps) (pick (ltb pathMost (length ps)) (refused itemLong) (bytes (joined sixOf ps)))
 
 -- ---- what is asked of a path that reads back: each relay id is four bytes

@@ -9,7 +9,7 @@ use lib.ListN.{length, getD, take, set, length-set, drop-of-length-le}
 use borrow.Author.Tests.{le-ltb, lt-ltb}
 use Rattle.base.specs.Pick.{pick}
 use Rattle.base.specs.Lists.{Bytes}
-use Rattle.base.specs.Answers.{Frame, bytes, refused}
+use Rattle.base.specs.Answers.{Writing, bytes, refused}
 use Rattle.wire.specs.Number.{beBytes}
 use Rattle.wire.proofs.Laws.Number.{be-length}
 use Rattle.wire.proofs.Laws.Lay.{put-fits}
@@ -146,7 +146,7 @@ module _ (s : List ℕ) (p : MeshPacket) (small : Bytes s) (read : meshOf s ≡ 
     pub rewritten-is : (E : List ℕ → List ℕ) (n : ℕ) → headerByte (carryingCount p n .mhdr) ≡ Byte b → (up : Bool) (x : List ℕ) (end : ℕ) → up ≡ isUplink (p .mhdr .«payload_type»)
         → x ≡ rewritten E b up end s → end ≡ length s - 4 → x ≡ leaves (hopEdit E s n) s
     rewritten-is E n e up x end f g at =
-        g ∙ ap (λ (u : Bool). rewritten E b u end s) f ∙ in-place E end at ∙ sym (ap (λ (y : Frame). leaves y s) (edit-is E n e))
+        g ∙ ap (λ (u : Bool). rewritten E b u end s) f ∙ in-place E end at ∙ sym (ap (λ (y : Writing). leaves y s) (edit-is E n e))
 
 -- the reader's refusal is the edit's
 pub edit-unread : (E : List ℕ → List ℕ) (s : List ℕ) (k n : ℕ) → meshOf s ≡ Refused k → hopEdit E s n ≡ refused k
@@ -158,5 +158,5 @@ pub edit-uncounted : (E : List ℕ → List ℕ) (s : List ℕ) (p : MeshPacket)
 unfolding hopEdit setMic signedOf fitting
 edit-uncounted E s p k n e f =
     ap (signedAnew E s n) e
-    ∙ ap (λ (x : Frame). writtenOf (alone s) (signedBy E (carryingCount p n) (fitting x))) (message-alone (alone s) (carryingCount p n) refl refl)
+    ∙ ap (λ (x : Writing). writtenOf (alone s) (signedBy E (carryingCount p n) (fitting x))) (message-alone (alone s) (carryingCount p n) refl refl)
     ∙ ap (λ (x : HeaderByte). writtenOf (alone s) (signedBy E (carryingCount p n) (fitting (behind x (payloadWire (alone s) (p .payload)))))) f

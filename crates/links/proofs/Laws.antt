@@ -11,7 +11,7 @@ use borrow.Author.Tests.{ltb-false}
 use Rattle.base.proofs.Lists.{listed}
 use Rattle.base.specs.Pick.{pick}
 use Rattle.base.specs.Lists.{Bytes, from}
-use Rattle.base.specs.Answers.{Frame, bytes, refused}
+use Rattle.base.specs.Answers.{Writing, bytes, refused}
 use Rattle.wire.specs.Number.{beOf, beBytes}
 use Rattle.wire.proofs.Laws.Number.{be-length, of-bytes, bytes-of}
 use Rattle.fields.specs.Signal.{rssiByte, snrByte}
@@ -33,12 +33,12 @@ use Rattle.links.proofs.Steps.{uplink-is, downlink-is}
 
 -- ---- what a frame of bytes came of
 
-pub followed-bytes : (f : Frame) (v w : List ℕ) → followed f v ≡ bytes w → (u : List ℕ) × (f ≡ bytes u) × (w ≡ u ++ v)
+pub followed-bytes : (f : Writing) (v w : List ℕ) → followed f v ≡ bytes w → (u : List ℕ) × (f ≡ bytes u) × (w ≡ u ++ v)
 followed-bytes (bytes u) v w e = (u, refl, cc)
 followed-bytes (refused n) v w e = let z : _≡_ {A = ℕ} 0 1 = cc in absurd (omega arith)
 
 -- a run that is written lies in the slice, behind a head that is accepted
-pub run-bytes : (s : List ℕ) (r : Run) (f : Frame) (w : List ℕ) → withRun s r f ≡ bytes w
+pub run-bytes : (s : List ℕ) (r : Run) (f : Writing) (w : List ℕ) → withRun s r f ≡ bytes w
     → (runRefusal (length s) r ≡ 0) × (u : List ℕ) × (f ≡ bytes u) × (w ≡ u ++ runBytes s r)
 run-bytes s r f w e =
     let a = unless-bytes (runRefusal (length s) r) (followed f (runBytes s r)) w e in

@@ -7,7 +7,7 @@ use mathlib.Core.List.{List, [], _∷_, _++_, append-nil}
 use lib.ListN.{length, getD, replicate, length-append}
 use borrow.Author.Tests.{lt-ltb, le-ltb}
 use Rattle.base.specs.Numbers.{frameLong, micMissing}
-use Rattle.base.specs.Answers.{Frame, bytes, refused, checkedOf, bytesOr, answerOf, outOf}
+use Rattle.base.specs.Answers.{Writing, bytes, refused, checkedOf, bytesOr, answerOf, outOf}
 use Rattle.base.specs.declared.Checked.the-variants.{Accepted, Refused as No}
 use Rattle.base.specs.declared.Written.{Written}
 use Rattle.base.specs.declared.Written.the-variants.{Refused}
@@ -42,14 +42,14 @@ module _ (at : ℕ) (b : List ℕ) (h : length b ≤ 8187) where
 
 -- ---- what a writer answers and leaves
 
-abbrev pub Outcome : Written → List ℕ → Frame → List ℕ → Type 0
+abbrev pub Outcome : Written → List ℕ → Writing → List ℕ → Type 0
 Outcome r x f o = (r ≡ answerOf f o) × (x ≡ outOf f o)
 
-pub refuses : (f : Frame) (k : ℕ) (o : List ℕ) → f ≡ refused k → Outcome (Refused k) o f o
+pub refuses : (f : Writing) (k : ℕ) (o : List ℕ) → f ≡ refused k → Outcome (Refused k) o f o
 unfolding answerOf outOf
 refuses f k o e = rw e (refl, refl)
 
-pub same-frame : (f g : Frame) (r : Written) (x o : List ℕ) → f ≡ g → Outcome r x g o → Outcome r x f o
+pub same-frame : (f g : Writing) (r : Written) (x o : List ℕ) → f ≡ g → Outcome r x g o → Outcome r x f o
 same-frame f g r x o e h = rw e h
 
 -- ---- four runs laid one behind the other
@@ -99,7 +99,7 @@ module _ (has : Bool) (mic first : ℕ) (h p : List ℕ) where
 
 -- ---- a head, answered beside its bytes
 
-module _ (n : ℕ) (f : Frame) (v : List ℕ) where
+module _ (n : ℕ) (f : Writing) (v : List ℕ) where
   pub head-refused : (k : ℕ) → f ≡ refused k → (No k ≡ checkedOf (followed f v)) × (replicate n 0 ≡ bytesOr n (followed f v))
   head-refused k e = rw e (refl, refl)
 
@@ -108,7 +108,7 @@ module _ (n : ℕ) (f : Frame) (v : List ℕ) where
 
 -- ---- a head with a run behind it
 
-module _ (s : List ℕ) (r : Run) (f : Frame) where
+module _ (s : List ℕ) (r : Run) (f : Writing) where
   pub run-outside : (k : ℕ) → k ≡ runRefusal (length s) r → (k ≡ 0 → ⊥) → withRun s r f ≡ refused k
   run-outside k e h = sym (is-refused k (runRefusal (length s) r) _ e h)
 
@@ -116,24 +116,24 @@ module _ (s : List ℕ) (r : Run) (f : Frame) where
   run-inside k e h = sym (not-refused (runRefusal (length s) r) _ (sym e ∙ h))
 
   pub run-no-head : (k n : ℕ) → k ≡ runRefusal (length s) r → k ≡ 0 → f ≡ refused n → withRun s r f ≡ refused n
-  run-no-head k n e h q = run-inside k e h ∙ ap (λ (x : Frame). followed x (runBytes s r)) q
+  run-no-head k n e h q = run-inside k e h ∙ ap (λ (x : Writing). followed x (runBytes s r)) q
 
   pub run-behind : (k : ℕ) (w v : List ℕ) → k ≡ runRefusal (length s) r → k ≡ 0 → f ≡ bytes w → v ≡ runBytes s r → withRun s r f ≡ bytes (w ++ v)
-  run-behind k w v e h q p = run-inside k e h ∙ ap (λ (x : Frame). followed x (runBytes s r)) q ∙ ap (λ (x : List ℕ). bytes (w ++ x)) (sym p)
+  run-behind k w v e h q p = run-inside k e h ∙ ap (λ (x : Writing). followed x (runBytes s r)) q ∙ ap (λ (x : List ℕ). bytes (w ++ x)) (sym p)
 
 -- ---- a body, and the frame around it
 
-pub body-refused : (f : Frame) (k : ℕ) (o : List ℕ) → f ≡ refused k → Outcome (Refused k) o (limitedOf f) o
+pub body-refused : (f : Writing) (k : ℕ) (o : List ℕ) → f ≡ refused k → Outcome (Refused k) o (limitedOf f) o
 body-refused f k o e = refuses (limitedOf f) k o (ap limitedOf e)
 
-pub body-written : (f : Frame) (w : List ℕ) (r : Written) (x o : List ℕ) → f ≡ bytes w → Outcome r x (limited w) o → Outcome r x (limitedOf f) o
+pub body-written : (f : Writing) (w : List ℕ) (r : Written) (x o : List ℕ) → f ≡ bytes w → Outcome r x (limited w) o → Outcome r x (limitedOf f) o
 body-written f w r x o e = same-frame (limitedOf f) (limited w) r x o (ap limitedOf e)
 
 module _ (has : Bool) (mic first : ℕ) where
-  pub frame-refused : (f : Frame) (k : ℕ) (o : List ℕ) → f ≡ refused k → Outcome (Refused k) o (withMic has mic (prefixed first f)) o
+  pub frame-refused : (f : Writing) (k : ℕ) (o : List ℕ) → f ≡ refused k → Outcome (Refused k) o (withMic has mic (prefixed first f)) o
   unfolding withMic
-  frame-refused f k o e = refuses (withMic has mic (prefixed first f)) k o (ap (λ (g : Frame). withMic has mic (prefixed first g)) e)
+  frame-refused f k o e = refuses (withMic has mic (prefixed first f)) k o (ap (λ (g : Writing). withMic has mic (prefixed first g)) e)
 
-  pub frame-written : (f : Frame) (w : List ℕ) (r : Written) (x o : List ℕ) → f ≡ bytes w
+  pub frame-written : (f : Writing) (w : List ℕ) (r : Written) (x o : List ℕ) → f ≡ bytes w
       → Outcome r x (withMic has mic (bytes (first ∷ w))) o → Outcome r x (withMic has mic (prefixed first f)) o
-  frame-written f w r x o e = same-frame _ _ r x o (ap (λ (g : Frame). withMic has mic (prefixed first g)) e)
+  frame-written f w r x o e = same-frame _ _ r x o (ap (λ (g : Writing). withMic has mic (prefixed first g)) e)

@@ -8,7 +8,7 @@ use lib.IntN.{ℤ, pos}
 use lib.ListN.{getD}
 use Rattle.base.specs.Pick.{pick}
 use Rattle.base.specs.Numbers.{typeLarge}
-use Rattle.base.specs.Answers.{Answer, value, number, leftBy, Frame, refused}
+use Rattle.base.specs.Answers.{Answer, value, number, leftBy, Writing, refused}
 use Rattle.fields.specs.Limits.{timestampMost, relayIdMost}
 use Rattle.keys.specs.declared.Aes128Key.{Aes128Key}
 use Rattle.fields.specs.Header.{codeOf, typeRead, headerByte}
@@ -106,7 +106,7 @@ ifMesh f g (Mesh p) = f p
 ifMesh f g (NoMesh n) = g n
 
 -- the body alone
-unfoldable pub numbersBody : Lent → List ℕ → ℤ → ℤ → Frame
+unfoldable pub numbersBody : Lent → List ℕ → ℤ → ℤ → Writing
 numbersBody l ns rssi snr = ifMesh (λ (p : MeshPacket). limitedOf (payloadWire l (p .payload))) refused (meshFrom ns rssi snr)
 
 unfoldable pub numbersSigned : (List ℕ → List ℕ) → Lent → List ℕ → ℤ → ℤ → MeshRead
@@ -120,7 +120,7 @@ numbersValid E l ns rssi snr = ifMesh (validateMic E l) NotValidated (meshFrom n
 unfoldable pub numbersSealed : List ℕ → Lent → List ℕ → List ℕ → MeshRead
 numbersSealed k l ns out = ifMesh (λ (p : MeshPacket). meshSealed k l p (p .payload) out) NoMesh (meshFrom ns (pos 0) (pos 0))
 
-unfoldable pub numbersSeal : List ℕ → Lent → List ℕ → Frame
+unfoldable pub numbersSeal : List ℕ → Lent → List ℕ → Writing
 numbersSeal k l ns = ifMesh (λ (p : MeshPacket). sealOf k l (p .payload)) refused (meshFrom ns (pos 0) (pos 0))
 
 unfoldable pub numbersDecrypted : List ℕ → List ℕ → List ℕ → List ℕ → MeshOpened

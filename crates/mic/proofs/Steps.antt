@@ -12,7 +12,7 @@ use Rattle.base.specs.Lists.{Bytes}
 use Rattle.base.specs.Blocks.{Block}
 use Rattle.base.proofs.Bytes.{cons-lt, append-lt}
 use Rattle.base.specs.Numbers.{frameLong, micMissing}
-use Rattle.base.specs.Answers.{Frame, bytes, refused}
+use Rattle.base.specs.Answers.{Writing, bytes, refused}
 use Rattle.wire.specs.Number.{beOf}
 use Rattle.fips197.specs.Aes.{aes}
 use Rattle.cipher.specs.inner.Words.{prepared, enciphered}
@@ -49,12 +49,12 @@ four-front (a ∷ b ∷ c ∷ d ∷ t) h = refl
 -- ---- a frame that is signed, or is not
 
 module _ (E : List ℕ → List ℕ) where
-  pub unsigned : (first k : ℕ) (f : Frame) → f ≡ refused k → Refused k ≡ madeOf E (fitting (prefixed first f))
+  pub unsigned : (first k : ℕ) (f : Writing) → f ≡ refused k → Refused k ≡ madeOf E (fitting (prefixed first f))
   unfolding madeOf fitting
   unsigned first k f e = rw e refl
 
-  pub signs : (first : ℕ) (f : Frame) (w : List ℕ) (r : Made) → f ≡ bytes w → r ≡ madeOf E (fitting (bytes (first ∷ w))) → r ≡ madeOf E (fitting (prefixed first f))
-  signs first f w r e h = h ∙ ap (λ (g : Frame). madeOf E (fitting (prefixed first g))) (sym e)
+  pub signs : (first : ℕ) (f : Writing) (w : List ℕ) (r : Made) → f ≡ bytes w → r ≡ madeOf E (fitting (bytes (first ∷ w))) → r ≡ madeOf E (fitting (prefixed first f))
+  signs first f w r e h = h ∙ ap (λ (g : Writing). madeOf E (fitting (prefixed first g))) (sym e)
 
   pub over : (first : ℕ) (h p : List ℕ) → 8187 < length h + length p → Refused frameLong ≡ madeOf E (fitting (bytes (first ∷ (h ++ p))))
   unfolding madeOf fitting
@@ -75,12 +75,12 @@ module _ (E : List ℕ → List ℕ) where
       unfolding signedOf fitting madeOf
       header-refused n e = rw (message-known l p k known z, ← e) refl
 
-      pub header-byte : (b : ℕ) (f : Frame) (r : Made) → Byte b ≡ headerByte (p .mhdr) → payloadWire l (p .payload) ≡ f
+      pub header-byte : (b : ℕ) (f : Writing) (r : Made) → Byte b ≡ headerByte (p .mhdr) → payloadWire l (p .payload) ≡ f
           → r ≡ madeOf E (fitting (prefixed b f)) → r ≡ madeOf E (signedOf l p)
       unfolding signedOf
       header-byte b f r e q h =
-          h ∙ sym (ap₂ (λ (x : HeaderByte) (y : Frame). madeOf E (fitting (behind x y))) (sym e) q)
-          ∙ sym (ap (λ (x : Frame). madeOf E (fitting x)) (message-known l p k known z))
+          h ∙ sym (ap₂ (λ (x : HeaderByte) (y : Writing). madeOf E (fitting (behind x y))) (sym e) q)
+          ∙ sym (ap (λ (x : Writing). madeOf E (fitting x)) (message-known l p k known z))
 
 -- ---- a content behind its head
 
@@ -117,7 +117,7 @@ module _ (key : List ℕ) (k : Block key) (first : ℕ) (h p : List ℕ) (lf : f
 -- ---- the MIC in its packet, and beside the one that is there
 
 module _ (E : List ℕ → List ℕ) (l : Lent) (p : MeshPacket) where
-  set-by : (f : Frame) (k : ℕ) → Refused k ≡ madeOf E f → NotSigned k ≡ signedBy E p f
+  set-by : (f : Writing) (k : ℕ) → Refused k ≡ madeOf E f → NotSigned k ≡ signedBy E p f
   unfolding madeOf
   set-by (refused n) k e = ap NotSigned (let q : k ≡ n = cc in q)
   set-by (bytes w) k e = let z : _≡_ {A = ℕ} 0 1 = cc in absurd (omega arith)
@@ -126,7 +126,7 @@ module _ (E : List ℕ → List ℕ) (l : Lent) (p : MeshPacket) where
   unfolding setMic
   set-refused r k e g = set-by (signedOf l p) k (sym g ∙ e)
 
-  set-mic-by : (f : Frame) (m : ℕ) → Mic m ≡ madeOf E f → Mesh (carryingMic p m) ≡ signedBy E p f
+  set-mic-by : (f : Writing) (m : ℕ) → Mic m ≡ madeOf E f → Mesh (carryingMic p m) ≡ signedBy E p f
   unfolding madeOf
   set-mic-by (refused n) m e = let z : _≡_ {A = ℕ} 0 1 = cc in absurd (omega arith)
   set-mic-by (bytes w) m e = ap (λ (x : ℕ). Mesh (carryingMic p x)) (let q : m ≡ micOf E w = cc in q)
@@ -135,12 +135,12 @@ module _ (E : List ℕ → List ℕ) (l : Lent) (p : MeshPacket) where
   unfolding setMic
   set-made r m e g = set-mic-by (signedOf l p) m (sym g ∙ e)
 
-  compared-no : (f : Frame) (k : ℕ) → Refused k ≡ madeOf E f → NotValidated k ≡ comparedBy E (p .mic) f
+  compared-no : (f : Writing) (k : ℕ) → Refused k ≡ madeOf E f → NotValidated k ≡ comparedBy E (p .mic) f
   unfolding madeOf
   compared-no (refused n) k e = ap NotValidated (let q : k ≡ n = cc in q)
   compared-no (bytes w) k e = let z : _≡_ {A = ℕ} 0 1 = cc in absurd (omega arith)
 
-  compared-as : (f : Frame) (m : ℕ) → Mic m ≡ madeOf E f → pick (eqb (p .mic) m) Valid Invalid ≡ comparedBy E (p .mic) f
+  compared-as : (f : Writing) (m : ℕ) → Mic m ≡ madeOf E f → pick (eqb (p .mic) m) Valid Invalid ≡ comparedBy E (p .mic) f
   unfolding madeOf
   compared-as (refused n) m e = let z : _≡_ {A = ℕ} 0 1 = cc in absurd (omega arith)
   compared-as (bytes w) m e = ap (λ (x : ℕ). pick (eqb (p .mic) x) Valid Invalid) (let q : m ≡ micOf E w = cc in q)

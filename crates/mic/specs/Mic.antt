@@ -8,7 +8,7 @@ use lib.Dec.{ltb, eqb}
 use lib.ListN.{length, take}
 use Rattle.base.specs.Pick.{pick}
 use Rattle.base.specs.Numbers.{frameLong, micMissing, messageMost}
-use Rattle.base.specs.Answers.{Answer, value, number, Frame, bytes, refused}
+use Rattle.base.specs.Answers.{Answer, value, number, Writing, bytes, refused}
 use Rattle.wire.specs.Number.{beOf}
 use Rattle.cmac_chain.specs.Cmac.{tag}
 use Rattle.contents.specs.Content.{Lent}
@@ -23,19 +23,19 @@ unfoldable pub micOf : (List ℕ → List ℕ) → List ℕ → ℕ
 micOf E w = beOf (take 4 (tag E w))
 
 -- header byte and body, of which four bytes more make a frame
-unfoldable pub fitting : Frame → Frame
+unfoldable pub fitting : Writing → Writing
 fitting (refused n) = refused n
 fitting (bytes w) = pick (ltb messageMost (length w)) (refused frameLong) (bytes w)
 
 -- what is signed, or the first refusal
-unfoldable pub signedOf : Lent → MeshPacket → Frame
+unfoldable pub signedOf : Lent → MeshPacket → Writing
 signedOf l p = fitting (messageOf l p)
 
 -- the packet with a MIC
 abbrev pub carryingMic : MeshPacket → ℕ → MeshPacket
 carryingMic p m = record { mhdr = p .mhdr; payload = p .payload; «has_mic» = true; mic = m }
 
-abbrev pub signedBy : (List ℕ → List ℕ) → MeshPacket → Frame → MeshRead
+abbrev pub signedBy : (List ℕ → List ℕ) → MeshPacket → Writing → MeshRead
 signedBy E p (refused n) = NotSigned n
 signedBy E p (bytes w) = Mesh (carryingMic p (micOf E w))
 
@@ -43,7 +43,7 @@ unfoldable pub setMic : (List ℕ → List ℕ) → Lent → MeshPacket → Mesh
 setMic E l p = signedBy E p (signedOf l p)
 
 -- a MIC, beside that of what is signed
-abbrev pub comparedBy : (List ℕ → List ℕ) → ℕ → Frame → Validated
+abbrev pub comparedBy : (List ℕ → List ℕ) → ℕ → Writing → Validated
 comparedBy E m (refused n) = Refused n
 comparedBy E m (bytes w) = pick (eqb m (micOf E w)) Valid Invalid
 

@@ -8,7 +8,7 @@ use lib.IntN.{ℤ, pos}
 use lib.ListN.{getD, set}
 use Rattle.base.specs.Pick.{pick}
 use Rattle.base.specs.Numbers.{typeLarge}
-use Rattle.base.specs.Answers.{Frame, refused}
+use Rattle.base.specs.Answers.{Writing, refused}
 use Rattle.wire.specs.declared.run.Run.{Run}
 use Rattle.fields.specs.Limits.{micMost, relayIdMost, channelMost, timestampMost}
 use Rattle.fields.specs.Header.{codeOf, typeRead}
@@ -229,5 +229,5 @@ abbrev pub ifPacket : {A : Type 0} → (Packet → A) → (ℕ → A) → Packet
 ifPacket f g (PacketIs p) = f p
 ifPacket f g (NoPacket n) = g n
 
-unfoldable pub numbersFrame : Lent → List ℕ → ℤ → ℤ → Frame
+unfoldable pub numbersFrame : Lent → List ℕ → ℤ → ℤ → Writing
 numbersFrame l ns rssi snr = ifPacket (packetFrame l) refused (packetFrom ns rssi snr)

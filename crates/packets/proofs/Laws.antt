@@ -5,7 +5,7 @@ use mathlib.Core.Bool.{Bool, true, false}
 use mathlib.Core.Path.{_≡_, refl, sym, ap₂, _∙_}
 use mathlib.Core.List.{List, []}
 use Rattle.base.specs.Numbers.{typeLarge}
-use Rattle.base.specs.Answers.{Frame, bytes, refused}
+use Rattle.base.specs.Answers.{Writing, bytes, refused}
 use Rattle.base.proofs.Answers.{is-refused, not-refused}
 use Rattle.fields.specs.Header.{headerByte}
 use Rattle.contents.specs.Content.{Lent}

@@ -4,7 +4,7 @@ use mathlib.Core.Path.{_≡_, refl, sym, ap, ap₂, _∙_}
 use mathlib.Core.List.{List}
 use lib.ListN.{length}
 use borrow.Author.Tests.{lt-ltb, le-ltb, eq-eqb, ne-eqb}
-use Rattle.base.specs.Answers.{Frame, bytes, answerOf, outOf}
+use Rattle.base.specs.Answers.{Writing, bytes, answerOf, outOf}
 use Rattle.base.specs.declared.Written.the-variants.{Refused}
 use Rattle.fields.specs.Header.{headerByte}
 use Rattle.fields.specs.declared.header.HeaderByte.{HeaderByte}
@@ -31,12 +31,12 @@ module _ (s : Lent) (p : MeshPacket) (k : ℕ) (known : k ≡ kindsIn s p) where
     header-refused n o e = rw (message-known s p k known z, ← e) (refl, refl)
 
     -- and otherwise what stands behind the byte
-    pub header-byte : (b : ℕ) (f : Frame) → Byte b ≡ headerByte (p .mhdr) → payloadWire s (p .payload) ≡ f
+    pub header-byte : (b : ℕ) (f : Writing) → Byte b ≡ headerByte (p .mhdr) → payloadWire s (p .payload) ≡ f
         → meshFrame s p ≡ withMic (p .«has_mic») (p .mic) (prefixed b f)
     unfolding meshFrame
     header-byte b f e q =
         ap (withMic (p .«has_mic») (p .mic)) (message-known s p k known z)
-        ∙ ap₂ (λ (x : HeaderByte) (y : Frame). withMic (p .«has_mic») (p .mic) (behind x y)) (sym e) q
+        ∙ ap₂ (λ (x : HeaderByte) (y : Writing). withMic (p .«has_mic») (p .mic) (behind x y)) (sym e) q
 
 -- a LoRa frame: outside, too long, and its bytes
 module _ (k : ℕ) (s : List ℕ) (r : Run) where

@@ -7,7 +7,7 @@ use lib.Dec.{ltb}
 use lib.ListN.{length}
 use Rattle.base.specs.Pick.{pick}
 use Rattle.base.specs.Numbers.{frameLong, frameMost}
-use Rattle.base.specs.Answers.{Frame, bytes, refused, unlessRefused}
+use Rattle.base.specs.Answers.{Writing, bytes, refused, unlessRefused}
 use Rattle.fields.specs.Header.{headerByte}
 use Rattle.fields.specs.declared.header.HeaderByte.{HeaderByte}
 use Rattle.fields.specs.declared.header.HeaderByte.the-variants.{Byte, Refused as NoByte}
@@ -23,7 +23,7 @@ use Rattle.packets.specs.declared.any.Packet.{Packet}
 use Rattle.packets.specs.declared.any.Packet.the-variants.{Mesh, Lora}
 
 -- the body; what is lent holds its payload
-unfoldable pub payloadWire : Lent → Payload → Frame
+unfoldable pub payloadWire : Lent → Payload → Writing
 payloadWire l (Uplink p) = uplinkWire (l .frame) p
 payloadWire l (Downlink p) = downlinkWire (l .frame) p
 payloadWire l (Event p) = eventWire l p
@@ -39,21 +39,21 @@ payloadKinds kinds spans (Command p) = contentKinds false kinds spans (p .comman
 abbrev pub kindsIn : Lent → MeshPacket → ℕ
 kindsIn l p = payloadKinds (l .lists .kinds) (l .lists .spans) (p .payload)
 
-abbrev pub behind : HeaderByte → Frame → Frame
+abbrev pub behind : HeaderByte → Writing → Writing
 behind (NoByte n) f = refused n
 behind (Byte b) f = prefixed b f
 
 -- header byte and body: what is signed, and what stands before the MIC
-unfoldable pub messageOf : Lent → MeshPacket → Frame
+unfoldable pub messageOf : Lent → MeshPacket → Writing
 messageOf l p = unlessRefused (kindsIn l p) (behind (headerByte (p .mhdr)) (payloadWire l (p .payload)))
 
-unfoldable pub meshFrame : Lent → MeshPacket → Frame
+unfoldable pub meshFrame : Lent → MeshPacket → Writing
 meshFrame l p = withMic (p .«has_mic») (p .mic) (messageOf l p)
 
 -- a LoRa frame is its bytes; of no bytes, no bytes
-unfoldable pub loraFrame : List ℕ → Run → Frame
+unfoldable pub loraFrame : List ℕ → Run → Writing
 loraFrame s r = unlessRefused (runRefusal (length s) r) (pick (ltb frameMost (r .len)) (refused frameLong) (bytes (runBytes s r)))
 
-unfoldable pub packetFrame : Lent → Packet → Frame
+unfoldable pub packetFrame : Lent → Packet → Writing
 packetFrame l (Mesh p) = meshFrame l p
 packetFrame l (Lora r) = loraFrame (l .frame) r

@@ -12,7 +12,7 @@ use lib.ListN.{length, take, drop, drop-of-length-le}
 use lib.Seq.{drop-append-le}
 use Rattle.base.specs.Pick.{pick}
 use Rattle.base.specs.Numbers.{outputShort, cacheMost}
-use Rattle.base.specs.Answers.{Answer, value, number, Frame, bytes, refused, answerOf, outOf, writtenSays, checkedOf, checkedSays, leftBy}
+use Rattle.base.specs.Answers.{Answer, value, number, Writing, bytes, refused, answerOf, outOf, writtenSays, checkedOf, checkedSays, leftBy}
 use Rattle.base.proofs.Answers.{out-length}
 use Rattle.contents.specs.Content.{Lent}
 use Rattle.contents.specs.declared.content.Content.{Content}
@@ -49,7 +49,7 @@ unfolding answerOf outOf
 written-by w o n true q e = simp q
 written-by w o n false q e = absurd (never (length w) n (simp q at e))
 
-pub refused-writes-nothing : (f : Frame) (o : List ℕ) (n : ℕ) → writtenSays (answerOf f o) ≡ number n → outOf f o ≡ o
+pub refused-writes-nothing : (f : Writing) (o : List ℕ) (n : ℕ) → writtenSays (answerOf f o) ≡ number n → outOf f o ≡ o
 unfolding outOf
 refused-writes-nothing (refused k) o n e = refl
 refused-writes-nothing (bytes w) o n e = written-by w o n (ltb (length o) (length w)) refl e
@@ -65,20 +65,20 @@ rest-by w o n false q e =
     let m : length w ≡ n = cc in
     rw (← m) (simp q (beyond w (drop (length w) o)))
 
-pub written-keeps-the-rest : (f : Frame) (o : List ℕ) (n : ℕ) → writtenSays (answerOf f o) ≡ value n → (length (outOf f o) ≡ length o) × (drop n (outOf f o) ≡ drop n o)
+pub written-keeps-the-rest : (f : Writing) (o : List ℕ) (n : ℕ) → writtenSays (answerOf f o) ≡ value n → (length (outOf f o) ≡ length o) × (drop n (outOf f o) ≡ drop n o)
 unfolding answerOf
 written-keeps-the-rest (refused k) o n e = absurd (never n k (sym e))
 written-keeps-the-rest (bytes w) o n e = (out-length (bytes w) o, rest-by w o n (ltb (length o) (length w)) refl e)
 
 -- ---- the hop edit
 
-pub refused-edit-changes-nothing : (f : Frame) (s : List ℕ) (n : ℕ) → checkedSays (checkedOf f) (leaves f s) ≡ number n → leaves f s ≡ s
+pub refused-edit-changes-nothing : (f : Writing) (s : List ℕ) (n : ℕ) → checkedSays (checkedOf f) (leaves f s) ≡ number n → leaves f s ≡ s
 refused-edit-changes-nothing (refused k) s n e = refl
 refused-edit-changes-nothing (bytes w) s n e = absurd (never w n e)
 
 -- ---- opening, into the lent work buffer
 
-opened-by : (ev : Bool) (f : Frame) (w : List ℕ) (n : ℕ) → openedSays (openedBy ev f w) ≡ number n → outOf f w ≡ w
+opened-by : (ev : Bool) (f : Writing) (w : List ℕ) (n : ℕ) → openedSays (openedBy ev f w) ≡ number n → outOf f w ≡ w
 unfolding openedBy outOf
 opened-by ev (refused k) w n e = refl
 opened-by ev (bytes c) w n e = by (ltb (length w) (length c)) refl where

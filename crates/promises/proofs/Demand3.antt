@@ -8,7 +8,7 @@ use mathlib.Core.List.{List, foldl}
 use lib.ListN.{length}
 use Rattle.base.specs.Lists.{Bytes}
 use Rattle.base.specs.Numbers.{hopsNone, hopsMany}
-use Rattle.base.specs.Answers.{Answer, value, number, Frame, bytes, refused, checkedOf, checkedSays}
+use Rattle.base.specs.Answers.{Answer, value, number, Writing, bytes, refused, checkedOf, checkedSays}
 use Rattle.fips197.specs.Aes.{aes}
 use Rattle.packets.specs.Read.{meshOf, meshSays}
 use Rattle.packets.specs.Write.{meshFrame}
@@ -53,7 +53,7 @@ edit-is-afresh s p e small said least most =
       record {
         signed-afresh = ap meshSays (a .signed);
         written-afresh = a .written;
-        answers = ap {B = Answer (List ℕ)} (λ (f : Frame). checkedSays (checkedOf f) (after s e)) (a .answer);
+        answers = ap {B = Answer (List ℕ)} (λ (f : Writing). checkedSays (checkedOf f) (after s e)) (a .answer);
         reads = ap meshSays r;
         length-kept = demand.same-length s p small read e least most;
         bits-kept = demand.few-bits s p small read e least most;
@@ -73,7 +73,7 @@ module _ (s : List ℕ) (e : Edit) where
   says = checkedSays (checkedOf (edited s e)) (after s e)
 
   told : (n : ℕ) → edited s e ≡ refused n → says ≡ number n
-  told n h = ap {B = Answer (List ℕ)} (λ (f : Frame). checkedSays (checkedOf f) (after s e)) h
+  told n h = ap {B = Answer (List ℕ)} (λ (f : Writing). checkedSays (checkedOf f) (after s e)) h
 
   pub unread-frame : (n : ℕ) → meshSays (meshOf s) ≡ number n → says ≡ number n
   unread-frame n h = told n (demand.unread s e n (mesh-refused (meshOf s) n h))

@@ -11,7 +11,7 @@ use lib.ListN.{length, drop, getD}
 use borrow.Author.Tests.{lt-ltb, le-ltb, ne-eqb}
 use Rattle.base.specs.Pick.{pick}
 use Rattle.base.specs.Numbers.{typeLarge}
-use Rattle.base.specs.Answers.{Answer, value, number, numberIn, leftBy, Frame, bytes, refused, answerOf, outOf, writtenSays, checkedOf, checkedNumber, checkedSays}
+use Rattle.base.specs.Answers.{Answer, value, number, numberIn, leftBy, Writing, bytes, refused, answerOf, outOf, writtenSays, checkedOf, checkedNumber, checkedSays}
 use Rattle.base.specs.declared.Checked.{Checked}
 use Rattle.base.specs.declared.Checked.the-variants as checked
 use Rattle.fields.specs.Header.{typeRead, typeSays, byteSays}
@@ -84,10 +84,10 @@ left : {A : Type 0} → {B : Type 0} → (f : A → B) (old : B) (a : Answer A) 
 left f old (value v) h = absurd (h refl)
 left f old (number n) h = refl
 
-out-left : (f : Frame) (out : List ℕ) → (numberIn (writtenSays (answerOf f out)) ≡ 0 → ⊥) → outOf f out ≡ out
+out-left : (f : Writing) (out : List ℕ) → (numberIn (writtenSays (answerOf f out)) ≡ 0 → ⊥) → outOf f out ≡ out
 out-left f out h = let r = refuses (writtenSays (answerOf f out)) h in refused-writes-nothing f out (r .0) (r .1)
 
-frame-left : (f : Frame) (s : List ℕ) → (checkedNumber (checkedOf f) ≡ 0 → ⊥) → leaves f s ≡ s
+frame-left : (f : Writing) (s : List ℕ) → (checkedNumber (checkedOf f) ≡ 0 → ⊥) → leaves f s ≡ s
 frame-left f s h = let r = checked-refuses (checkedOf f) (leaves f s) h in refused-edit-changes-nothing f s (r .0) (r .1)
 
 -- ---- sealing and opening, of the packet that numbers stand for
@@ -100,7 +100,7 @@ sealed-left k l ns out h = by (meshFrom ns (pos 0) (pos 0)) h where
   by (Mesh p) g = let r = refuses (meshSays (meshSealed k l p (p .payload) out)) g in refused-sealing-writes-nothing k l p (p .payload) out (r .0) (r .1)
   by (NoMesh n) g = refl
 
-opened-left : (ev : Bool) (f : Frame) (w : List ℕ) → (openedNumber (openedSays (openedBy ev f w)) ≡ 0 → ⊥) → outOf f w ≡ w
+opened-left : (ev : Bool) (f : Writing) (w : List ℕ) → (openedNumber (openedSays (openedBy ev f w)) ≡ 0 → ⊥) → outOf f w ≡ w
 unfolding openedBy outOf
 opened-left ev (refused k) w h = refl
 opened-left ev (bytes c) w h = by (ltb (length w) (length c)) refl where
@@ -178,9 +178,9 @@ pub record Unchanged : Type 1 where
   -- whether it is valid, counts, an item, how many entries, an entry, a length, a key, a record, whether it is new
   pub stored : {A : Type 0} → {B : Type 0} → (f : A → B) (old : B) (a : Answer A) → (numberIn a ≡ 0 → ⊥) → leftBy f old a ≡ old
   -- the output of every call that writes, and of `mesh_stream`
-  pub output : (f : Frame) (out : List ℕ) → (numberIn (writtenSays (answerOf f out)) ≡ 0 → ⊥) → outOf f out ≡ out
+  pub output : (f : Writing) (out : List ℕ) → (numberIn (writtenSays (answerOf f out)) ≡ 0 → ⊥) → outOf f out ≡ out
   -- the frame of `mesh_set_hop_count`
-  pub frame : (f : Frame) (s : List ℕ) → (checkedNumber (checkedOf f) ≡ 0 → ⊥) → leaves f s ≡ s
+  pub frame : (f : Writing) (s : List ℕ) → (checkedNumber (checkedOf f) ≡ 0 → ⊥) → leaves f s ≡ s
   -- the output of `mesh_seal`
   pub sealed-output : (k : List ℕ) (l : Lent) (ns out : List ℕ) → (numberIn (meshSays (numbersSealed k l ns out)) ≡ 0 → ⊥) → outOf (numbersSeal k l ns) out ≡ out
   -- the work buffer of `mesh_decrypt`; its counts and numbers, and those of `mesh_decode`, which answers 255 too

@@ -12,7 +12,7 @@ use borrow.Author.Tests.{eqb-false}
 use Rattle.base.specs.Pick.{pick}
 use Rattle.base.specs.Lists.{firstOf}
 use Rattle.base.specs.Numbers.{micMissing, frameMost, messageMost, bodyMost, payloadMost, pathMost, cacheMost}
-use Rattle.base.specs.Answers.{Answer, value, number, numberIn, Frame, bytes, refused, unlessRefused, checkedOf, answerOf, writtenSays, checkedSays}
+use Rattle.base.specs.Answers.{Answer, value, number, numberIn, Writing, bytes, refused, unlessRefused, checkedOf, answerOf, writtenSays, checkedSays}
 use Rattle.wire.specs.Part.{reachOf}
 use Rattle.keys.specs.Key.{keyFromSlice, keyFromText, keySays}
 use Rattle.fields.specs.Header.{typeRead, typed, headerOf, headerByte, typeSays, headerSays, byteSays}
@@ -119,7 +119,7 @@ picked f true x y a b = a
 picked f false x y a b = b
 
 -- what is to be written, or the number
-abbrev frameSays : Frame → Answer (List ℕ)
+abbrev frameSays : Writing → Answer (List ℕ)
 frameSays (bytes w) = value w
 frameSays (refused n) = number n
 
@@ -127,18 +127,18 @@ more : (k : ℕ) → eqb k 0 ≡ false → 0 < k
 more zero e = absurd (eqb-false 0 0 e refl)
 more (suc k) e = omega arith
 
-unless : (k : ℕ) (f : Frame) → Numbered (frameSays f) → Numbered (frameSays (unlessRefused k f))
+unless : (k : ℕ) (f : Writing) → Numbered (frameSays f) → Numbered (frameSays (unlessRefused k f))
 unless k f s = by (eqb k 0) refl where
   by : (t : Bool) → eqb k 0 ≡ t → Numbered (frameSays (pick t f (refused k)))
   by true e = s
   by false e = more k e
 
-writes : (f : Frame) (o : List ℕ) → Numbered (frameSays f) → Numbered (writtenSays (answerOf f o))
+writes : (f : Writing) (o : List ℕ) → Numbered (frameSays f) → Numbered (writtenSays (answerOf f o))
 unfolding answerOf
 writes (refused n) o s = s
 writes (bytes w) o s = picked writtenSays (ltb (length o) (length w)) _ _ (omega arith) tt
 
-checks : {A : Type 0} (f : Frame) (a : A) → Numbered (frameSays f) → Numbered (checkedSays (checkedOf f) a)
+checks : {A : Type 0} (f : Writing) (a : A) → Numbered (frameSays f) → Numbered (checkedSays (checkedOf f) a)
 checks (refused n) a s = s
 checks (bytes w) a s = tt
 
@@ -200,7 +200,7 @@ uplink-metadata m =
     unless (idRefusal (m .«uplink_id») (m .dr)) _
     (after-rssi (idBytes (m .«uplink_id») (m .dr)) (m .channel ∷ []) (snrByte (m .snr)) (rssiByte (m .rssi)) (snr-byte (m .snr)) (rssi-byte (m .rssi)))
 
-after-frequency : (m : DownlinkMetadata) (f : Frame) → Numbered (frameSays f) → Numbered (frameSays (afterFreq m f))
+after-frequency : (m : DownlinkMetadata) (f : Writing) → Numbered (frameSays f) → Numbered (frameSays (afterFreq m f))
 after-frequency m (bytes w) s = tt
 after-frequency m (refused n) s = s
 
@@ -331,11 +331,11 @@ packet-read s =
 
 -- ---- bodies and frames written
 
-more-behind : (f : Frame) (v : List ℕ) → Numbered (frameSays f) → Numbered (frameSays (followed f v))
+more-behind : (f : Writing) (v : List ℕ) → Numbered (frameSays f) → Numbered (frameSays (followed f v))
 more-behind (bytes w) v s = tt
 more-behind (refused n) v s = s
 
-more-before : (h : List ℕ) (f : Frame) → Numbered (frameSays f) → Numbered (frameSays (headedBy h f))
+more-before : (h : List ℕ) (f : Writing) → Numbered (frameSays f) → Numbered (frameSays (headedBy h f))
 more-before h (bytes w) s = tt
 more-before h (refused n) s = s
 
@@ -359,7 +359,7 @@ command-wire : (l : Lent) (u : CommandPayload) → Numbered (frameSays (commandW
 unfolding commandWire stampedWire contentWire
 command-wire l u = more-before (stamp (u .timestamp) (u .«relay_id»)) (contentWire false l (u .commands)) (unless (contentRefusal false l (u .commands)) _ tt)
 
-within : (f : Frame) → Numbered (frameSays f) → Numbered (frameSays (limitedOf f))
+within : (f : Writing) → Numbered (frameSays f) → Numbered (frameSays (limitedOf f))
 unfolding limited
 within (bytes w) s = picked frameSays (ltb bodyMost (length w)) _ _ (omega arith) tt
 within (refused n) s = s
@@ -371,7 +371,7 @@ payload-wire l (Downlink u) = downlink-wire (l .frame) u
 payload-wire l (Event u) = event-wire l u
 payload-wire l (Command u) = command-wire l u
 
-behind-byte : (h : HeaderByte) (f : Frame) → Numbered (byteSays h) → Numbered (frameSays f) → Numbered (frameSays (behind h f))
+behind-byte : (h : HeaderByte) (f : Writing) → Numbered (byteSays h) → Numbered (frameSays f) → Numbered (frameSays (behind h f))
 behind-byte (Byte b) f x y = more-before (b ∷ []) f y
 behind-byte (NoByte n) f x y = x
 
@@ -379,7 +379,7 @@ message : (l : Lent) (p : MeshPacket) → Numbered (frameSays (messageOf l p))
 unfolding messageOf
 message l p = unless (kindsIn l p) _ (behind-byte (headerByte (p .mhdr)) (payloadWire l (p .payload)) (header-byte (p .mhdr)) (payload-wire l (p .payload)))
 
-with-mic : (has : Bool) (mic : ℕ) (f : Frame) → Numbered (frameSays f) → Numbered (frameSays (withMic has mic f))
+with-mic : (has : Bool) (mic : ℕ) (f : Writing) → Numbered (frameSays f) → Numbered (frameSays (withMic has mic f))
 unfolding withMic
 with-mic has mic (bytes w) s = picked frameSays has _ _ (picked frameSays (ltb messageMost (length w)) _ _ (omega arith) tt) (omega arith)
 with-mic has mic (refused n) s = s
@@ -441,7 +441,7 @@ or-refused k x s = by (eqb k 0) refl where
 not-again : (kept outside : ℕ) → Numbered (openedSays (refuseOpen kept outside))
 not-again kept outside = or-refused (openRefusal kept) _ (or-refused outside _ tt)
 
-opened-work : (ev : Bool) (f : Frame) (w : List ℕ) → Numbered (frameSays f) → Numbered (openedSays (openedBy ev f w))
+opened-work : (ev : Bool) (f : Writing) (w : List ℕ) → Numbered (frameSays f) → Numbered (openedSays (openedBy ev f w))
 unfolding openedBy
 opened-work ev (bytes c) w s = picked openedSays (ltb (length w) (length c)) _ _ (omega arith) tt
 opened-work ev (refused n) w s = s
@@ -507,21 +507,21 @@ mesh-decoded p (Command u) f w = let o = decodeOf false (u .commands) f w in of-
 signed-frame : (l : Lent) (p : MeshPacket) → Numbered (frameSays (signedOf l p))
 unfolding signedOf fitting
 signed-frame l p = by (messageOf l p) (message l p) where
-  by : (f : Frame) → Numbered (frameSays f) → Numbered (frameSays (fitting f))
+  by : (f : Writing) → Numbered (frameSays f) → Numbered (frameSays (fitting f))
   by (bytes w) s = picked frameSays (ltb messageMost (length w)) _ _ (omega arith) tt
   by (refused n) s = s
 
 signed : (E : List ℕ → List ℕ) (l : Lent) (p : MeshPacket) → Numbered (meshSays (setMic E l p))
 unfolding setMic
 signed E l p = by (signedOf l p) (signed-frame l p) where
-  by : (f : Frame) → Numbered (frameSays f) → Numbered (meshSays (signedBy E p f))
+  by : (f : Writing) → Numbered (frameSays f) → Numbered (meshSays (signedBy E p f))
   by (bytes w) s = tt
   by (refused n) s = s
 
 validated : (E : List ℕ → List ℕ) (l : Lent) (p : MeshPacket) → Numbered (validSays (validateMic E l p))
 unfolding validateMic
 validated E l p = kinds (eqb (kindsIn l p) 0) refl where
-  by : (f : Frame) → Numbered (frameSays f) → Numbered (validSays (comparedBy E (p .mic) f))
+  by : (f : Writing) → Numbered (frameSays f) → Numbered (validSays (comparedBy E (p .mic) f))
   by (bytes w) s = picked validSays (eqb (p .mic) (micOf E w)) _ _ tt tt
   by (refused n) s = s
 

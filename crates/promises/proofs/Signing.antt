@@ -11,7 +11,7 @@ use borrow.Author.Tests.{eq-eqb, ne-eqb, eqb-true, eqb-false}
 use Rattle.base.specs.Numbers.{micMissing, typeLarge}
 use Rattle.base.specs.Lists.{orElse}
 use Rattle.base.proofs.Answers.{is-refused}
-use Rattle.base.specs.Answers.{value, number, Frame, bytes, refused, unlessRefused, frameNumber, numberIn, answerOf, writtenSays}
+use Rattle.base.specs.Answers.{value, number, Writing, bytes, refused, unlessRefused, frameNumber, numberIn, answerOf, writtenSays}
 use Rattle.wire.specs.Number.{beBytes}
 use Rattle.composed_items.specs.Composed.{verdictOf}
 use Rattle.composed_items.proofs.Laws.{kinds-29}
@@ -35,7 +35,7 @@ use Rattle.mic.specs.Mic.{micOf, fitting, signedOf, carryingMic, signedBy, setM
 
 -- "The MIC is the first 4 bytes of the CMAC over header byte and body as the writer writes them": what is signed is what is written before
 -- the MIC
-message-by : (f : Frame) (has : Bool) (mic : ℕ) (w : List ℕ) → withMic has mic f ≡ bytes w → (m : List ℕ) × (fitting f ≡ bytes m) × (w ≡ m ++ beBytes 4 mic)
+message-by : (f : Writing) (has : Bool) (mic : ℕ) (w : List ℕ) → withMic has mic f ≡ bytes w → (m : List ℕ) × (fitting f ≡ bytes m) × (w ≡ m ++ beBytes 4 mic)
 unfolding withMic fitting
 message-by (refused n) has mic w e = let z : _≡_ {A = ℕ} 0 1 = cc in absurd (omega arith)
 message-by (bytes m) false mic w e = let z : _≡_ {A = ℕ} 0 1 = cc in absurd (omega arith)
@@ -49,11 +49,11 @@ unfolding meshFrame signedOf
 signs-what-is-written l p w e = message-by (messageOf l p) (p .«has_mic») (p .mic) w e
 
 -- "Signing: the same without 27 and 21": it refuses with the writer's number, but for 27
-signing-by : (E : List ℕ → List ℕ) (p : MeshPacket) (f : Frame) → numberIn (meshSays (signedBy E p f)) ≡ frameNumber f
+signing-by : (E : List ℕ → List ℕ) (p : MeshPacket) (f : Writing) → numberIn (meshSays (signedBy E p f)) ≡ frameNumber f
 signing-by E p (refused n) = refl
 signing-by E p (bytes w) = refl
 
-written-by : (f : Frame) (mic : ℕ) → frameNumber (fitting f) ≡ frameNumber (withMic true mic f)
+written-by : (f : Writing) (mic : ℕ) → frameNumber (fitting f) ≡ frameNumber (withMic true mic f)
 unfolding fitting withMic
 written-by (refused n) mic = refl
 written-by (bytes m) mic = by (ltb 8188 (length m)) where
@@ -87,7 +87,7 @@ module _ (l : Lent) where
   strange-content ev (Open k r) h = absurd (h refl)
   strange-content ev (Items n) h = sym (or-first _ _ h ∙ kinds-29 ev (l .lists .kinds) (l .lists .spans) n h)
 
-  body-strange : (ev : Bool) (b : Content) (f : Frame) → (contentKinds ev (l .lists .kinds) (l .lists .spans) b ≡ 0 → ⊥) → unlessRefused (contentRefusal ev l b) f ≡ refused typeLarge
+  body-strange : (ev : Bool) (b : Content) (f : Writing) → (contentKinds ev (l .lists .kinds) (l .lists .spans) b ≡ 0 → ⊥) → unlessRefused (contentRefusal ev l b) f ≡ refused typeLarge
   body-strange ev b f h = sym (is-refused typeLarge (contentRefusal ev l b) f (strange-content ev b h) (λ z. omega arith))
 
   wire-strange : (q : Payload) → (payloadKinds (l .lists .kinds) (l .lists .spans) q ≡ 0 → ⊥) → payloadWire l q ≡ refused typeLarge
@@ -101,22 +101,22 @@ module _ (l : Lent) where
   unfolding meshSealed payloadKinds eventSeal commandSeal contentSeal eventSealed commandSealed answerOf
   seal-strange key p (payload.Uplink u) o h = absurd (h refl)
   seal-strange key p (payload.Downlink u) o h = absurd (h refl)
-  seal-strange key p (payload.Event u) o h = ap (λ (f : Frame). meshSays (ofEventSealed p (eventSealed u (answerOf f o)))) (body-strange true (u .events) _ h)
-  seal-strange key p (payload.Command u) o h = ap (λ (f : Frame). meshSays (ofCommandSealed p (commandSealed u (answerOf f o)))) (body-strange false (u .commands) _ h)
+  seal-strange key p (payload.Event u) o h = ap (λ (f : Writing). meshSays (ofEventSealed p (eventSealed u (answerOf f o)))) (body-strange true (u .events) _ h)
+  seal-strange key p (payload.Command u) o h = ap (λ (f : Writing). meshSays (ofCommandSealed p (commandSealed u (answerOf f o)))) (body-strange false (u .commands) _ h)
 
   pub strange-kind-not-sealed : (key : List ℕ) (p : MeshPacket) (o : List ℕ) → (kindsIn l p ≡ 0 → ⊥) → meshSays (meshSealed key l p (p .payload) o) ≡ number typeLarge
   strange-kind-not-sealed key p o h = seal-strange key p (p .payload) o h
 
   pub strange-kind-not-written-alone : (p : MeshPacket) (o : List ℕ) → (kindsIn l p ≡ 0 → ⊥) → writtenSays (answerOf (limitedOf (payloadWire l (p .payload))) o) ≡ number typeLarge
   unfolding answerOf
-  strange-kind-not-written-alone p o h = ap (λ (f : Frame). writtenSays (answerOf (limitedOf f) o)) (wire-strange (p .payload) h)
+  strange-kind-not-written-alone p o h = ap (λ (f : Writing). writtenSays (answerOf (limitedOf f) o)) (wire-strange (p .payload) h)
 
 -- "validating: 27, then as signing"
 pub validating-wants-a-mic : (E : List ℕ → List ℕ) (l : Lent) (p : MeshPacket) → kindsIn l p ≡ 0 → p .«has_mic» ≡ false → validSays (validateMic E l p) ≡ number micMissing
 unfolding validateMic
 validating-wants-a-mic E l p k e = simp (eq-eqb (kindsIn l p) 0 k, e)
 
-validating-by : (E : List ℕ → List ℕ) (m : ℕ) (p : MeshPacket) (f : Frame) → numberIn (validSays (comparedBy E m f)) ≡ numberIn (meshSays (signedBy E p f))
+validating-by : (E : List ℕ → List ℕ) (m : ℕ) (p : MeshPacket) (f : Writing) → numberIn (validSays (comparedBy E m f)) ≡ numberIn (meshSays (signedBy E p f))
 validating-by E m p (refused n) = refl
 validating-by E m p (bytes w) = by (eqb m (micOf E w)) where
   by : (t : Bool) → numberIn (validSays (pick t Valid Invalid)) ≡ 0
@@ -149,7 +149,7 @@ module _ (E : List ℕ → List ℕ) (l : Lent) (p : MeshPacket) where
           let y : refused (kindsIn l p) ≡ bytes w = sym (ap fitting (message-strange l p (kindsIn l p) refl (eqb-false _ _ q))) ∙ g in
           let z : _≡_ {A = ℕ} 0 1 = cc in absurd (omega arith)
 
-  valid-by : (m : ℕ) (f : Frame) → fitting (messageOf l p) ≡ f → (q : MeshPacket) → signedBy E p f ≡ Mesh q → (m′ : ℕ) → validSays (validateMic E l (carryingMic p m′)) ≡ value (eqb m′ (q .mic))
+  valid-by : (m : ℕ) (f : Writing) → fitting (messageOf l p) ≡ f → (q : MeshPacket) → signedBy E p f ≡ Mesh q → (m′ : ℕ) → validSays (validateMic E l (carryingMic p m′)) ≡ value (eqb m′ (q .mic))
   unfolding validateMic signedOf
   valid-by m (refused n) g q e m′ = let z : _≡_ {A = ℕ} 0 1 = cc in absurd (omega arith)
   valid-by m (bytes w) g q e m′ =

@@ -11,7 +11,7 @@ use lib.Seq.{getD-drop}
 use borrow.Author.Tests.{le-ltb, ltb-false}
 use Rattle.base.specs.Pick.{pick}
 use Rattle.base.specs.Lists.{Bytes}
-use Rattle.base.specs.Answers.{Frame, bytes}
+use Rattle.base.specs.Answers.{Writing, bytes}
 use Rattle.base.proofs.Lists.{_◂_, listed}
 use Rattle.wire.specs.Number.{beOf, beBytes}
 use Rattle.wire.proofs.Laws.Number.{bytes-of}
@@ -99,6 +99,6 @@ read-written s x p v h e f n =
     let q : length s ≡ length s - 4 + 4 = omega arith in
     let d : beBytes 4 (p .mic) ≡ drop (length s - 4) s = ap (beBytes 4) (r .mic) ∙ last-four s (length s - 4) h q in
     ap (withMic (p .«has_mic») (p .mic)) (message-is (framed s x) p v f)
-    ∙ ap₂ (λ (z : HeaderByte) (y : Frame). withMic (p .«has_mic») (p .mic) (behind z y)) b f
+    ∙ ap₂ (λ (z : HeaderByte) (y : Writing). withMic (p .«has_mic») (p .mic) (behind z y)) b f
     ∙ ap (λ (t : Bool). withMic t (p .mic) (bytes (getD s 0 0 ∷ v))) (r .signed)
     ∙ simp (le-ltb 8188 (length (getD s 0 0 ∷ v)) g) (ap (λ (y : List ℕ). bytes ((getD s 0 0 ∷ v) ++ y)) d)

@@ -10,7 +10,7 @@ use lib.Seq.{drop-cons, drop-drop, drop-append-le, take-at, getD-take, length-ta
 use borrow.Author.Tests.{le-ltb, eq-eqb, ne-eqb, eqb-true, eqb-false}
 use Rattle.base.specs.Pick.{pick}
 use Rattle.base.specs.Lists.{from, Bytes}
-use Rattle.base.specs.Answers.{Frame, bytes}
+use Rattle.base.specs.Answers.{Writing, bytes}
 use Rattle.base.proofs.Bytes.{take-lt, drop-lt}
 use Rattle.base.proofs.Lists.{from-same, listed}
 use Rattle.wire.specs.Part.{reachNumber, partOf}
@@ -117,7 +117,7 @@ module _ (s : List ℕ) (least : 5 ≤ length s) where
       (ap (take (length b - k)) d ∙ take-at (drop k b) rest (length b - k) (length-drop k b))
 
   -- a head, and that run
-  with-run : (k : ℕ) (r : Run) (f : Frame) (h : List ℕ) → k ≤ length b → r ≡ record { start = k + 1; len = length b - k } → f ≡ bytes h
+  with-run : (k : ℕ) (r : Run) (f : Writing) (h : List ℕ) → k ≤ length b → r ≡ record { start = k + 1; len = length b - k } → f ≡ bytes h
       → withRun s r f ≡ bytes (h ++ drop k b)
   with-run k r f h l e q =
       let m = n in

@@ -10,7 +10,7 @@ use lib.Seq.{take-at, getD-append-add}
 use lib.Dec.{ltb, eqb}
 use borrow.Author.Tests.{le-ltb, ne-eqb, ltb-false}
 use Rattle.base.specs.Pick.{pick}
-use Rattle.base.specs.Answers.{Frame, bytes, refused}
+use Rattle.base.specs.Answers.{Writing, bytes, refused}
 use Rattle.wire.specs.Number.{beBytes}
 use Rattle.wire.proofs.Laws.Number.{be-length, of-bytes}
 use Rattle.fields.specs.Header.{headerOf, headerByte}
@@ -102,7 +102,7 @@ module _ (s : Lent) (p : MeshPacket) (w : List ℕ) where
   signing b v h f true m e = fitting b v h f m (ltb 8188 (length (b ∷ v))) refl e
   signing b v h f false m e = absurd (never 27 w e)
 
-  bodied : (b : ℕ) → headerByte (p .mhdr) ≡ Byte b → (f : Frame) → payloadWire s (p .payload) ≡ f
+  bodied : (b : ℕ) → headerByte (p .mhdr) ≡ Byte b → (f : Writing) → payloadWire s (p .payload) ≡ f
       → withMic (p .«has_mic») (p .mic) (prefixed b f) ≡ bytes w → Made s p w
   unfolding withMic
   bodied b h (refused n) q e = absurd (never n w e)

@@ -9,7 +9,7 @@ use lib.Dec.{eqb}
 use lib.ListN.{length, length-append}
 use borrow.Author.Tests.{eqb-true, le-ltb}
 use Rattle.base.specs.Pick.{pick}
-use Rattle.base.specs.Answers.{Frame, bytes}
+use Rattle.base.specs.Answers.{Writing, bytes}
 use Rattle.wire.specs.Part.{reachNumber}
 use Rattle.wire.specs.Run.{runRefusal, runBytes}
 use Rattle.wire.specs.declared.run.Run.{Run}
@@ -69,9 +69,9 @@ module _ (ev : Bool) (key : List ℕ) (relay time : ℕ) (l : Lent) (b : Content
     opened-by : (k : List ℕ) (t : Bool) → eqb (length w) 0 ≡ t
         → decryptOf key ev relay time (pick t Empty (Sealed (front w rest))) (w ++ rest) k ≡ openedBy ev (bytes (contentBytes ev l b)) k
     unfolding decryptOf
-    opened-by k true e = sym (ap (λ (f : Frame). openedBy ev f k) (sym unsealed ∙ ap (sealedOf key ev relay time) (none w (eqb-true _ _ e))) ∙ nothing-opened ev key relay time k)
+    opened-by k true e = sym (ap (λ (f : Writing). openedBy ev f k) (sym unsealed ∙ ap (sealedOf key ev relay time) (none w (eqb-true _ _ e))) ∙ nothing-opened ev key relay time k)
     opened-by k false e =
-        ap (λ (f : Frame). openedBy ev f k)
+        ap (λ (f : Writing). openedBy ev f k)
         (sym (not-refused (runRefusal (length (w ++ rest)) (front w rest)) (sealedOf key ev relay time (runBytes (w ++ rest) (front w rest))) (front-inside w rest))
         ∙ ap (sealedOf key ev relay time) (front-bytes w rest) ∙ unsealed)
 

@@ -11,7 +11,7 @@ use borrow.Author.Tests.{eq-eqb, ne-eqb, le-ltb}
 use Rattle.base.specs.Pick.{pick}
 use Rattle.base.specs.Numbers.{frameLong, outputShort}
 use Rattle.base.specs.Blocks.{Block}
-use Rattle.base.specs.Answers.{Frame, bytes, refused, answerOf, outOf}
+use Rattle.base.specs.Answers.{Writing, bytes, refused, answerOf, outOf}
 use Rattle.base.specs.declared.Written.{Written}
 use Rattle.base.specs.declared.Written.the-variants.{Bytes, Refused as NotWritten}
 use Rattle.base.proofs.Answers.{not-refused, is-refused as unless-refused}
@@ -53,7 +53,7 @@ part-front c rest =
     simp (le-ltb (length (c ++ rest)) 0 a, le-ltb (length (c ++ rest) - 0) (length c) b) (take-at c rest (length c) refl)
 
 module _ (ev : Bool) (w : List ℕ) where
-  pub not-opened : (f : Frame) (k : ℕ) → NotWritten k ≡ answerOf f w → Refused k ≡ openedBy ev f w
+  pub not-opened : (f : Writing) (k : ℕ) → NotWritten k ≡ answerOf f w → Refused k ≡ openedBy ev f w
   unfolding answerOf openedBy
   not-opened (refused n) k e = cc
   not-opened (bytes c) k e = by (ltb (length w) (length c)) e
@@ -64,7 +64,7 @@ module _ (ev : Bool) (w : List ℕ) where
       by false q = let z : _≡_ {A = ℕ} 0 1 = cc in absurd (omega arith)
 
   -- what is counted is the clear bytes, which lie at the front
-  pub now-opened : (f : Frame) (n : ℕ) (x : List ℕ) (r : Opened) → Bytes n ≡ answerOf f w → x ≡ outOf f w
+  pub now-opened : (f : Writing) (n : ℕ) (x : List ℕ) (r : Opened) → Bytes n ≡ answerOf f w → x ≡ outOf f w
       → r ≡ openedAs InWork (record { start = 0; len = n }) (openingOf ev (partOf x 0 n)) → r ≡ openedBy ev f w
   unfolding answerOf openedBy outOf
   now-opened (refused k) n x r e p q = let z : _≡_ {A = ℕ} 0 1 = cc in absurd (omega arith)
@@ -79,7 +79,7 @@ module _ (ev : Bool) (w : List ℕ) where
           q ∙ ap (λ (v : List ℕ). openedAs InWork (record { start = 0; len = n }) (openingOf ev v)) a
           ∙ ap (λ (m : ℕ). openedAs InWork (record { start = 0; len = m }) (openingOf ev c)) k
 
-  pub frame-refused : (f : Frame) (k : ℕ) → refused k ≡ f → (Refused k ≡ openedBy ev f w) × (w ≡ outOf f w)
+  pub frame-refused : (f : Writing) (k : ℕ) → refused k ≡ f → (Refused k ≡ openedBy ev f w) × (w ≡ outOf f w)
   unfolding openedBy outOf
   frame-refused f k e = rw (← e) (refl, refl)
 
@@ -101,7 +101,7 @@ module _ (key : List ℕ) (ev : Bool) (relay time : ℕ) (l : Lent) (b : Content
   abbrev clear : List ℕ
   clear = contentBytes ev l b
 
-  abbrev sealed : Frame
+  abbrev sealed : Writing
   sealed = sealedOf key ev relay time clear
 
   pub seal-refused : (k ≡ 0 → ⊥) → Outcome (NotWritten k) o (contentSeal key ev relay time l b) o

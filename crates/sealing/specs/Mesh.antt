@@ -2,7 +2,7 @@
 use mathlib.Core.Bool.{true, false}
 use mathlib.Core.List.{List, []}
 use Prim.Native.Nat.{ℕ}
-use Rattle.base.specs.Answers.{Frame, bytes, answerOf, Answer, value, number}
+use Rattle.base.specs.Answers.{Writing, bytes, answerOf, Answer, value, number}
 use Rattle.items.specs.Items.{nothing}
 use Rattle.contents.specs.Content.{Lent}
 use Rattle.events.specs.declared.stamped.EventRead.{EventRead}
@@ -39,7 +39,7 @@ ofCommandSealed p (CommandIs u) = Mesh (carrying p (Command u))
 ofCommandSealed p (NoCommand n) = Refused n
 
 -- what is laid into the output: nothing of an uplink or a downlink
-abbrev pub sealOf : List ℕ → Lent → Payload → Frame
+abbrev pub sealOf : List ℕ → Lent → Payload → Writing
 sealOf key l (Uplink u) = bytes []
 sealOf key l (Downlink u) = bytes []
 sealOf key l (Event u) = eventSeal key l u

@@ -7,7 +7,7 @@ use lib.Dec.{ltb, eqb}
 use lib.ListN.{length}
 use Rattle.base.specs.Pick.{pick}
 use Rattle.base.specs.Numbers.{frameLong, outputShort, openMany, openOne, payloadMost}
-use Rattle.base.specs.Answers.{Frame, bytes, refused, outOf, Answer, value, number, unlessRefused}
+use Rattle.base.specs.Answers.{Writing, bytes, refused, outOf, Answer, value, number, unlessRefused}
 use Rattle.wire.specs.Run.{runRefusal, runBytes}
 use Rattle.wire.specs.declared.run.Run.{Run}
 use Rattle.items.specs.Items.{openingOf, nothing}
@@ -37,11 +37,11 @@ abbrev pub openRefusal : ℕ → ℕ
 openRefusal k = pick (ltb 1 k) openMany (pick (eqb k 1) openOne 0)
 
 -- the clear bytes of a sealed run, or 45, 5
-abbrev pub sealWire : List ℕ → Bool → ℕ → ℕ → List ℕ → Run → Frame
+abbrev pub sealWire : List ℕ → Bool → ℕ → ℕ → List ℕ → Run → Writing
 sealWire key ev relay time f r = unlessRefused (runRefusal (length f) r) (sealedOf key ev relay time (runBytes f r))
 
 -- into the work buffer, or 21
-unfoldable pub openedBy : Bool → Frame → List ℕ → Opened
+unfoldable pub openedBy : Bool → Writing → List ℕ → Opened
 openedBy ev (refused n) w = Refused n
 openedBy ev (bytes c) w = pick (ltb (length w) (length c)) (Refused outputShort) (openedAs InWork (record { start = 0; len = length c }) (openingOf ev c))
 

@@ -2,7 +2,7 @@
 use Prim.Native.Nat.{ℕ}
 use mathlib.Core.Bool.{Bool, true, false}
 use mathlib.Core.List.{List}
-use Rattle.base.specs.Answers.{Frame, Answer, value, number, unlessRefused}
+use Rattle.base.specs.Answers.{Writing, Answer, value, number, unlessRefused}
 use Rattle.base.specs.declared.Written.{Written}
 use Rattle.base.specs.declared.Written.the-variants.{Bytes, Refused}
 use Rattle.key_stream.specs.Stream.{sealedOf}
@@ -24,13 +24,13 @@ use Rattle.sealing.specs.declared.command.CommandOpened.the-variants.{Op
 
 -- ---- sealing: what is written of the content, with the key stream added, or the first refusal: 29, 45, path entries, 19, 20, 5
 
-unfoldable pub contentSeal : List ℕ → Bool → ℕ → ℕ → Lent → Content → Frame
+unfoldable pub contentSeal : List ℕ → Bool → ℕ → ℕ → Lent → Content → Writing
 contentSeal key ev relay time l b = unlessRefused (contentRefusal ev l b) (sealedOf key ev relay time (contentBytes ev l b))
 
-unfoldable pub eventSeal : List ℕ → Lent → EventPayload → Frame
+unfoldable pub eventSeal : List ℕ → Lent → EventPayload → Writing
 eventSeal key l p = contentSeal key true (p .«relay_id») (p .timestamp) l (p .events)
 
-unfoldable pub commandSeal : List ℕ → Lent → CommandPayload → Frame
+unfoldable pub commandSeal : List ℕ → Lent → CommandPayload → Writing
 commandSeal key l p = contentSeal key false (p .«relay_id») (p .timestamp) l (p .commands)
 
 -- it lies at the front of the output, which is lent as the frame from then on; what has no bytes is empty

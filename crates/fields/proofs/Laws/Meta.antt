@@ -9,7 +9,7 @@ use lib.ListN.{length, getD}
 use borrow.Author.Tests.{ltb-false, eqb-true, eqb-false, le-ltb}
 use Rattle.base.specs.Pick.{pick}
 use Rattle.base.specs.Lists.{Bytes}
-use Rattle.base.specs.Answers.{Frame, bytes, refused}
+use Rattle.base.specs.Answers.{Writing, bytes, refused}
 use Rattle.base.proofs.First.{passed}
 use Rattle.base.proofs.Answers.{unless-bytes}
 use Rattle.wire.specs.Number.{beBytes}
@@ -111,7 +111,7 @@ up-again b l h =
 
 -- ---- downlinks
 
-with-steps : (m : DownlinkMetadata) (f : Frame) (w : List ℕ) → afterFreq m f ≡ bytes w
+with-steps : (m : DownlinkMetadata) (f : Writing) (w : List ℕ) → afterFreq m f ≡ bytes w
     → (s : List ℕ) × (f ≡ bytes s) × (w ≡ idBytes (m .«uplink_id») (m .dr) ++ s ++ (m .«tx_power» * 16 + (m .delay - 1)) ∷ [])
 with-steps m (bytes s) w e = (s, refl, cc)
 with-steps m (refused n) w e = let z : _≡_ {A = ℕ} 0 1 = cc in absurd (omega arith)

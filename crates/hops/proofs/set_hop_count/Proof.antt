@@ -3,7 +3,7 @@ use mathlib.Core.Path.{sym, ap, _∙_}
 use native.Mathlib.Omega.{arith}
 use denote.Ref.{now}
 use Rattle.base.specs.Lists.{Bytes}
-use Rattle.base.specs.Answers.{Frame, checkedOf}
+use Rattle.base.specs.Answers.{Writing, checkedOf}
 use Rattle.fips197.specs.Aes.{aes}
 use Rattle.fields.specs.Header.{headerByte}
 use Rattle.hops.specs.Hops.{leaves}
@@ -17,7 +17,7 @@ returns c =
     let a = c .before .before .before .before .before .before .args in
     let s = now (a .frame) in
     let e = edit-unread (aes (a .key .0)) s _ (a .hop-count) (sym (c .before .before .before .from-slice .ensures) ∙ c .before .n .given .1) in
-    (sym (ap checkedOf e), sym (ap (λ (f : Frame). leaves f s) e))
+    (sym (ap checkedOf e), sym (ap (λ (f : Writing). leaves f s) e))
 
 returns-2 : tie.Need-returns-2
 returns-2 c =
@@ -26,7 +26,7 @@ returns-2 c =
     let r = sym (c .before .before .before .before .before .before .before .before .before .from-slice .ensures) ∙ c .before .before .before .before .before .before .before .p .given .1 in
     let h = sym (c .before .before .before .to-byte .ensures ∙ ap headerByte (c .before .before .before .before .recounted .ensures)) ∙ c .before .n2 .given .1 in
     let e = edit-uncounted (aes (a .key .0)) s (c .before .before .before .before .before .before .before .p .given .0 .0) _ (a .hop-count) r h in
-    (sym (ap checkedOf e), sym (ap (λ (f : Frame). leaves f s) e))
+    (sym (ap checkedOf e), sym (ap (λ (f : Writing). leaves f s) e))
 
 returns-3 : tie.Need-returns-3
 returns-3 c =

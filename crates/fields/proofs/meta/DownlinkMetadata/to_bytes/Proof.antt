@@ -1,6 +1,6 @@
 -- `fields::meta::DownlinkMetadata::to_bytes` meets its contract. Assumes nothing.
 use Rattle.wire.specs.Number.{beBytes}
-use Rattle.base.specs.Answers.{Frame, bytes}
+use Rattle.base.specs.Answers.{Writing, bytes}
 use Rattle.base.proofs.Lists.{_◂_}
 use Rattle.fields.specs.Freq.{stepsWire}
 use Rattle.fields.specs.Meta.{downRefusal, afterFreq, downWire, downAnswer, downBytes}
@@ -14,7 +14,7 @@ use mathlib.Core.Path.{_≡_, refl, sym, ap, _∙_}
 use Rattle.fields.proofs.meta.DownlinkMetadata.to_bytes.Statement.{statement}
 use Rattle.fields.proofs.meta.DownlinkMetadata.to_bytes.Tie as tie
 
-abbrev withSteps : DownlinkMetadata → StepsRead → Frame
+abbrev withSteps : DownlinkMetadata → StepsRead → Writing
 withSteps m s = afterFreq m (stepsWire s)
 
 none : (c : tie.Else1) → downRefusal (c .before .before .args .self) ≡ 0

@@ -7,7 +7,7 @@ use Rattle.fields.specs.Signal.{rssiByte, snrByte}
 use Rattle.fields.specs.Meta.{idBytes, idRefusal, afterSnr, afterRssi, upWire, upAnswer, upBytes}
 use Rattle.fields.specs.declared.meta.UplinkMetadata.{UplinkMetadata}
 use Rattle.fields.specs.declared.signal.SignalByte.{SignalByte}
-use Rattle.base.specs.Answers.{Frame}
+use Rattle.base.specs.Answers.{Writing}
 use Rattle.base.proofs.Answers.{is-refused, not-refused}
 use Rattle.fields.proofs.Laws.Meta.{id-fits}
 use borrow.Author.Needs.{needs}
@@ -16,10 +16,10 @@ use mathlib.Core.Path.{_≡_, sym, ap, _∙_}
 use Rattle.fields.proofs.meta.UplinkMetadata.to_bytes.Statement.{statement}
 use Rattle.fields.proofs.meta.UplinkMetadata.to_bytes.Tie as tie
 
-abbrev withSnr : UplinkMetadata → ℕ → SignalByte → Frame
+abbrev withSnr : UplinkMetadata → ℕ → SignalByte → Writing
 withSnr m = afterSnr (idBytes (m .«uplink_id») (m .dr)) (m .channel ∷ [])
 
-abbrev withRssi : UplinkMetadata → SignalByte → Frame
+abbrev withRssi : UplinkMetadata → SignalByte → Writing
 withRssi m = afterRssi (idBytes (m .«uplink_id») (m .dr)) (m .channel ∷ []) (snrByte (m .snr))
 
 none : (c : tie.Else1) → idRefusal (c .before .before .args .self .«uplink_id») (c .before .before .args .self .dr) ≡ 0

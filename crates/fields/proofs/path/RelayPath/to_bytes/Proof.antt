@@ -5,7 +5,7 @@ use mir.Syntax.{w8, w16}
 use mathlib.Core.List.{List, [], _∷_}
 use lib.ListN.{getD}
 use Rattle.wire.specs.Number.{beBytes}
-use Rattle.base.specs.Answers.{Frame, bytes}
+use Rattle.base.specs.Answers.{Writing, bytes}
 use Rattle.fields.specs.Signal.{rssiByte, snrByte}
 use Rattle.fields.specs.Meta.{afterSnr, afterRssi}
 use Rattle.fields.specs.Path.{pathWire, pathAnswer, pathBytes}
@@ -16,10 +16,10 @@ use mathlib.Core.Path.{_≡_, sym, ap, _∙_}
 use Rattle.fields.proofs.path.RelayPath.to_bytes.Statement.{statement}
 use Rattle.fields.proofs.path.RelayPath.to_bytes.Tie as tie
 
-abbrev withSnr : RelayPath → ℕ → SignalByte → Frame
+abbrev withSnr : RelayPath → ℕ → SignalByte → Writing
 withSnr p = afterSnr (beBytes 4 (p .«relay_id»)) []
 
-abbrev withRssi : RelayPath → SignalByte → Frame
+abbrev withRssi : RelayPath → SignalByte → Writing
 withRssi p = afterRssi (beBytes 4 (p .«relay_id»)) [] (snrByte (p .snr))
 
 rssi : (c : tie.After-rssi-byte) → c .rssi-byte .result ≡ rssiByte (c .before .before .args .self .rssi)
