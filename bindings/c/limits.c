@@ -653,7 +653,7 @@ static void widths(void) {
             LARGEST(frequency, UINT32_MAX);
             LARGEST(tx_power, UINT8_MAX);
             LARGEST(delay, UINT8_MAX);
-            LARGEST(body, UINT8_MAX);
+            LARGEST(content, UINT8_MAX);
             for (size_t k = 0; k <= COUNT(WIDE); k++) {
                 mesh_packet none_is[4] = {p, p, p, p};
                 none_is[0].mic = none_is[1].relay_id = none_is[2].timestamp = WIDE[k % COUNT(WIDE)];
@@ -698,7 +698,7 @@ static void codes(void) {
                 CHECK(do_write(false, &p, &l, 0) == 45 && do_seal(&p, &l, 0) == 45 && do_sign(&p, &l) == 45);
             } else {
                 none(p, &l);
-                /* Of those that both lists have, 29, also where the body counts more; what it does not count is not looked at. */
+                /* Of those that both lists have, 29, also where the content counts more; what it does not count is not looked at. */
                 p.len = UINT64_MAX;
                 none(p, &l);
                 mesh_lent few = l;
@@ -709,16 +709,16 @@ static void codes(void) {
             }
         }
         const mesh_lent l = mesh_lent_frame(value, 3);
-        for (unsigned body = 5; body < 256; body++)
+        for (unsigned content = 5; content < 256; content++)
             for (uint64_t len = 0; len < 6; len += 3) {
-                mesh_packet p = at(kind, (uint8_t)body, 1, len);
+                mesh_packet p = at(kind, (uint8_t)content, 1, len);
                 none(p, &l);
                 CHECK(do_decrypt(&p, value, 3, NULL, 0) == 29 && do_decode(&p, value, 3, NULL, 0) == 29);
                 mesh_record_of known = {7, 7, 7, 7};
                 CHECK(mesh_packet_record(&p, &known) == 29 && known.type == 7 && known.relay_id == 7);
             }
     }
-    /* Of the others the body is not looked at. */
+    /* Of the others the content is not looked at. */
     const mesh_lent l = mesh_lent_frame(value, 3);
     for (uint8_t kind = MESH_UPLINK; kind <= MESH_LORA; kind++) {
         if (kind == MESH_EVENT || kind == MESH_COMMAND) continue;
