@@ -27,6 +27,7 @@ use keys::Aes128Key;
 use mic::Validated;
 use mic::set_mic;
 use mic::validate_mic;
+use numbers::PacketNumbers;
 use numbers::mesh_of;
 use numbers::put_mic;
 use numbers::put_place;
@@ -48,7 +49,7 @@ use sealing::MeshOpened;
 #[no_mangle]
 pub extern "C" fn mesh_read(
     frame: &[u8],
-    numbers: &mut [u64; 16],
+    numbers: &mut PacketNumbers,
     rssi: &mut i16,
     snr: &mut i8,
 ) -> u8
@@ -64,7 +65,7 @@ pub extern "C" fn mesh_read(
 #[no_mangle]
 pub extern "C" fn mesh_read_mesh(
     frame: &[u8],
-    numbers: &mut [u64; 16],
+    numbers: &mut PacketNumbers,
     rssi: &mut i16,
     snr: &mut i8,
 ) -> u8
@@ -81,7 +82,7 @@ pub extern "C" fn mesh_read_mesh(
 pub extern "C" fn mesh_read_body(
     kind: u8,
     b: &[u8],
-    numbers: &mut [u64; 16],
+    numbers: &mut PacketNumbers,
     rssi: &mut i16,
     snr: &mut i8,
 ) -> u8
@@ -98,7 +99,7 @@ pub extern "C" fn mesh_read_body(
 // 29, then as document 01's writing order; the frame's length in `length`.
 #[no_mangle]
 pub extern "C" fn mesh_write<'a>(
-    numbers: &[u64; 16],
+    numbers: &PacketNumbers,
     rssi: i16,
     snr: i8,
     frame: &'a [u8],
@@ -156,7 +157,7 @@ fn write_payload<'a>(
 }
 
 fn write_alone<'a>(
-    numbers: &[u64; 16],
+    numbers: &PacketNumbers,
     rssi: i16,
     snr: i8,
     frame: &'a [u8],
@@ -183,7 +184,7 @@ fn write_alone<'a>(
 // The body alone.
 #[no_mangle]
 pub extern "C" fn mesh_write_body<'a>(
-    numbers: &[u64; 16],
+    numbers: &PacketNumbers,
     rssi: i16,
     snr: i8,
     frame: &'a [u8],
@@ -221,7 +222,7 @@ pub extern "C" fn mesh_write_body<'a>(
 // ---- signing and validating
 
 fn sign_numbers<'a>(
-    numbers: &[u64; 16],
+    numbers: &PacketNumbers,
     rssi: i16,
     snr: i8,
     key: Aes128Key,
@@ -241,7 +242,7 @@ fn sign_numbers<'a>(
     }
 }
 
-fn put_signed(read: MeshRead, numbers: &mut [u64; 16]) -> u8
+fn put_signed(read: MeshRead, numbers: &mut PacketNumbers) -> u8
     ensures answer { λ r. ⌜ r ≡ numberIn (meshSays read) ⌝ }
     ensures numbers { λ _. ⌜ now (numbers .exit) ≡ signedLeft (now (numbers .entry)) (meshSays read) ⌝ }
 {
@@ -257,7 +258,7 @@ fn put_signed(read: MeshRead, numbers: &mut [u64; 16]) -> u8
 // The MIC that a packet has under a signing key, in place: has_mic becomes 1, and mic the MIC. What MIC it came with does not matter.
 #[no_mangle]
 pub extern "C" fn mesh_sign<'a>(
-    numbers: &mut [u64; 16],
+    numbers: &mut PacketNumbers,
     rssi: i16,
     snr: i8,
     key: &[u8; 16],
@@ -289,7 +290,7 @@ pub extern "C" fn mesh_sign<'a>(
 }
 
 fn validate_numbers<'a>(
-    numbers: &[u64; 16],
+    numbers: &PacketNumbers,
     rssi: i16,
     snr: i8,
     key: Aes128Key,
@@ -312,7 +313,7 @@ fn validate_numbers<'a>(
 // Whether a packet has the MIC that it should have under a signing key: 0 with 1 or 0 in `valid`, or the number with nothing changed.
 #[no_mangle]
 pub extern "C" fn mesh_validate<'a>(
-    numbers: &[u64; 16],
+    numbers: &PacketNumbers,
     rssi: i16,
     snr: i8,
     key: &[u8; 16],
@@ -368,7 +369,7 @@ pub extern "C" fn mesh_set_hop_count(key: &[u8; 16], frame: &mut [u8], hop_count
 // ---- sealing and opening, in place: of the packet only content, start and len change. Of an uplink nothing is sealed, so its rssi and snr, which
 // these calls do not take, do not count.
 
-fn put_sealed(read: MeshRead, numbers: &mut [u64; 16]) -> u8
+fn put_sealed(read: MeshRead, numbers: &mut PacketNumbers) -> u8
     ensures answer { λ r. ⌜ r ≡ numberIn (meshSays read) ⌝ }
     ensures numbers { λ _. ⌜ now (numbers .exit) ≡ placedLeft (now (numbers .entry)) (meshSays read) ⌝ }
 {
@@ -383,7 +384,7 @@ fn put_sealed(read: MeshRead, numbers: &mut [u64; 16]) -> u8
 }
 
 fn seal_numbers<'a>(
-    numbers: &[u64; 16],
+    numbers: &PacketNumbers,
     key: Aes128Key,
     frame: &'a [u8],
     work: &'a [u8],
@@ -417,7 +418,7 @@ fn seal_numbers<'a>(
 // The packet with its payload sealed, which lies at the front of `out`: `out` is its frame from then on.
 #[no_mangle]
 pub extern "C" fn mesh_seal<'a>(
-    numbers: &mut [u64; 16],
+    numbers: &mut PacketNumbers,
     key: &[u8; 16],
     frame: &'a [u8],
     work: &'a [u8],
@@ -447,7 +448,7 @@ pub extern "C" fn mesh_seal<'a>(
     put_sealed(read, numbers)
 }
 
-fn put_opened(o: MeshOpened, numbers: &mut [u64; 16], counts: &mut [u64; 6]) -> u8
+fn put_opened(o: MeshOpened, numbers: &mut PacketNumbers, counts: &mut [u64; 6]) -> u8
     ensures answer { λ r. ⌜ r ≡ openedNumber (meshOpenedSays o) ⌝ }
     ensures numbers { λ _. ⌜ now (numbers .exit) ≡ openedLeft (now (numbers .entry)) (meshOpenedSays o) ⌝ }
     ensures counts { λ _. ⌜ now (counts .exit) ≡ countsLeft (now (counts .entry)) (meshOpenedSays o) ⌝ }
@@ -464,7 +465,12 @@ fn put_opened(o: MeshOpened, numbers: &mut [u64; 16], counts: &mut [u64; 6]) -> 
     }
 }
 
-fn decrypt_numbers(numbers: &[u64; 16], key: Aes128Key, frame: &[u8], work: &mut [u8]) -> MeshOpened
+fn decrypt_numbers(
+    numbers: &PacketNumbers,
+    key: Aes128Key,
+    frame: &[u8],
+    work: &mut [u8],
+) -> MeshOpened
     ensures answer { λ r. ⌜ r ≡ numbersDecrypted (key .0) (now (numbers .entry)) (now (frame .entry)) (now (work .entry)) ⌝ }
     ensures work { λ _. ⌜ now (work .exit) ≡ numbersWork (key .0) (now (numbers .entry)) (now (frame .entry)) (now (work .entry)) ⌝ }
 {
@@ -477,7 +483,7 @@ fn decrypt_numbers(numbers: &[u64; 16], key: Aes128Key, frame: &[u8], work: &mut
 // The packet with its payload opened, which lies at the front of `work`, and what was in it: 29, 22, 23, 45, 5, 21.
 #[no_mangle]
 pub extern "C" fn mesh_decrypt(
-    numbers: &mut [u64; 16],
+    numbers: &mut PacketNumbers,
     key: &[u8; 16],
     frame: &[u8],
     work: &mut [u8],
@@ -492,7 +498,7 @@ pub extern "C" fn mesh_decrypt(
     put_opened(o, numbers, counts)
 }
 
-fn decode_numbers<'a>(numbers: &[u64; 16], frame: &'a [u8], work: &'a [u8]) -> MeshOpened
+fn decode_numbers<'a>(numbers: &PacketNumbers, frame: &'a [u8], work: &'a [u8]) -> MeshOpened
     ensures { λ r. ⌜ r ≡ numbersDecoded (now (numbers .entry)) (now (frame .entry)) (now (work .entry)) ⌝ }
 {
     match mesh_of(numbers, 0, 0) {
@@ -504,7 +510,7 @@ fn decode_numbers<'a>(numbers: &[u64; 16], frame: &'a [u8], work: &'a [u8]) -> M
 // The same of a payload that is clear as it stands: 29, 45, 5, or 255 where it is open already.
 #[no_mangle]
 pub extern "C" fn mesh_decode<'a>(
-    numbers: &mut [u64; 16],
+    numbers: &mut PacketNumbers,
     frame: &'a [u8],
     work: &'a [u8],
     counts: &mut [u64; 6],
@@ -540,7 +546,7 @@ fn known_time(kind: u64, timestamp: u32) -> u32
 
 // What the duplicate cache knows a packet by: type, uplink id, timestamp and relay id; 29.
 #[no_mangle]
-pub extern "C" fn mesh_record(numbers: &[u64; 16], record: &mut [u64; 4]) -> u8
+pub extern "C" fn mesh_record(numbers: &PacketNumbers, record: &mut [u64; 4]) -> u8
     ensures answer { λ r. ⌜ r ≡ numberIn (meshSays (meshFrom (now (numbers .entry)) (pos 0) (pos 0))) ⌝ }
     ensures record { λ _. ⌜ now («record» .exit) ≡ leftBy recordIn (now («record» .entry)) (meshSays (meshFrom (now (numbers .entry)) (pos 0) (pos 0))) ⌝ }
 {

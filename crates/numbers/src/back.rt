@@ -3,6 +3,7 @@ ghost use mathlib.Core.Path.{_≡_};
 ghost use Rattle.fields.specs.Header.{typeRead};
 ghost use Rattle.numbers.specs.Numbers.{payloadPlace, atMost, tooWide, strangeContent, runFrom, contentFrom, uplinkFrom, downlinkFrom, payloadFrom, meshFrom, packetFrom, micSet, placeSet};
 use crate::Code;
+use crate::PacketNumbers;
 use crate::read::content_place;
 use base::Refusal;
 use contents::Content;
@@ -65,7 +66,7 @@ pub fn to_type(n: u64) -> TypeRead
 // ---- what no packet has, before all else
 
 // A MIC, relay id, channel or timestamp that is wider than its field.
-pub fn too_wide(numbers: &[u64; 16]) -> bool
+pub fn too_wide(numbers: &PacketNumbers) -> bool
     ensures { λ r. ⌜ r ≡ tooWide (now (numbers .entry)) ⌝ }
 {
     if (Mic::MOST as u64) < numbers[4] {
@@ -81,7 +82,7 @@ pub fn too_wide(numbers: &[u64; 16]) -> bool
 }
 
 // A content code of an event or a command that is none; of other kinds it does not count.
-pub fn strange_content(numbers: &[u64; 16]) -> bool
+pub fn strange_content(numbers: &PacketNumbers) -> bool
     ensures { λ r. ⌜ r ≡ strangeContent (now (numbers .entry)) ⌝ }
 {
     if numbers[0] < PayloadType::EVENT as u64 {
@@ -92,7 +93,7 @@ pub fn strange_content(numbers: &[u64; 16]) -> bool
 
 // ---- the payload of each kind
 
-fn run_of(numbers: &[u64; 16]) -> Run
+fn run_of(numbers: &PacketNumbers) -> Run
     ensures { λ r. ⌜ r ≡ runFrom (now (numbers .entry)) ⌝ }
 {
     Run {
@@ -101,7 +102,7 @@ fn run_of(numbers: &[u64; 16]) -> Run
     }
 }
 
-fn content_of(numbers: &[u64; 16]) -> Content
+fn content_of(numbers: &PacketNumbers) -> Content
     ensures { λ r. ⌜ r ≡ contentFrom (now (numbers .entry)) ⌝ }
 {
     let run = run_of(numbers);
@@ -127,7 +128,7 @@ fn content_of(numbers: &[u64; 16]) -> Content
     Content::Items(run.len)
 }
 
-pub(crate) fn uplink_of(numbers: &[u64; 16], rssi: i16, snr: i8) -> UplinkPayload
+pub(crate) fn uplink_of(numbers: &PacketNumbers, rssi: i16, snr: i8) -> UplinkPayload
     ensures { λ r. ⌜ r ≡ uplinkFrom (now (numbers .entry)) rssi snr ⌝ }
 {
     UplinkPayload {
@@ -143,7 +144,7 @@ pub(crate) fn uplink_of(numbers: &[u64; 16], rssi: i16, snr: i8) -> UplinkPayloa
     }
 }
 
-fn downlink_of(numbers: &[u64; 16]) -> DownlinkPayload
+fn downlink_of(numbers: &PacketNumbers) -> DownlinkPayload
     ensures { λ r. ⌜ r ≡ downlinkFrom (now (numbers .entry)) ⌝ }
 {
     DownlinkPayload {
@@ -159,7 +160,7 @@ fn downlink_of(numbers: &[u64; 16]) -> DownlinkPayload
     }
 }
 
-fn payload_of(kind: PayloadType, numbers: &[u64; 16], rssi: i16, snr: i8) -> Payload
+fn payload_of(kind: PayloadType, numbers: &PacketNumbers, rssi: i16, snr: i8) -> Payload
     ensures { λ r. ⌜ r ≡ payloadFrom (now (numbers .entry)) rssi snr kind ⌝ }
 {
     match kind {
@@ -181,7 +182,7 @@ fn payload_of(kind: PayloadType, numbers: &[u64; 16], rssi: i16, snr: i8) -> Pay
 // ---- the packet
 
 // 29 where a number is too wide, the kind or the header's type is over 3, or the content of an event or a command is none.
-pub fn mesh_of(numbers: &[u64; 16], rssi: i16, snr: i8) -> MeshRead
+pub fn mesh_of(numbers: &PacketNumbers, rssi: i16, snr: i8) -> MeshRead
     ensures { λ r. ⌜ r ≡ meshFrom (now (numbers .entry)) rssi snr ⌝ }
 {
     if too_wide(numbers) {
@@ -208,7 +209,7 @@ pub fn mesh_of(numbers: &[u64; 16], rssi: i16, snr: i8) -> MeshRead
 }
 
 // 29 where a number is too wide or the kind is over 4, and as `mesh_of` of a mesh packet.
-pub(crate) fn packet_of(numbers: &[u64; 16], rssi: i16, snr: i8) -> PacketRead
+pub(crate) fn packet_of(numbers: &PacketNumbers, rssi: i16, snr: i8) -> PacketRead
     ensures { λ r. ⌜ r ≡ packetFrom (now (numbers .entry)) rssi snr ⌝ }
 {
     if too_wide(numbers) {
@@ -225,7 +226,7 @@ pub(crate) fn packet_of(numbers: &[u64; 16], rssi: i16, snr: i8) -> PacketRead
 
 // ---- in place: has_mic and mic, and content, start and len; the others stay as they are
 
-pub fn put_mic(mic: u32, numbers: &mut [u64; 16])
+pub fn put_mic(mic: u32, numbers: &mut PacketNumbers)
     ensures { λ _. ⌜ now (numbers .exit) ≡ micSet (now (numbers .entry)) mic ⌝ }
 {
     numbers[3] = 1;
@@ -255,7 +256,7 @@ fn place_of(payload: Payload) -> [u64; 3]
     }
 }
 
-pub fn put_place(payload: Payload, numbers: &mut [u64; 16])
+pub fn put_place(payload: Payload, numbers: &mut PacketNumbers)
     ensures { λ _. ⌜ now (numbers .exit) ≡ placeSet (now (numbers .entry)) (payloadPlace payload) ⌝ }
 {
     let place = place_of(payload);

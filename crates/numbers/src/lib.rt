@@ -21,6 +21,9 @@ pub use read::read_mesh_numbers;
 pub use read::read_numbers;
 pub use write::write_numbers;
 
+// A packet's numbers.
+pub type PacketNumbers = [u64; 16];
+
 // The codes that no type of the crates below has.
 pub struct Code;
 

@@ -6,6 +6,7 @@ ghost use Rattle.packets.specs.Read.{packetSays, packetOf, meshSays, meshOf};
 ghost use Rattle.packets.specs.declared.mesh.Payload.the-variants.{Uplink, Downlink};
 ghost use Rattle.numbers.specs.Numbers.{contentPlace, stampedFields, listed, meshNumbers, meshRssi, meshSnr, numbersIn, rssiIn, snrIn, bodyRead, around, bareBy};
 use crate::Code;
+use crate::PacketNumbers;
 use crate::from_bool;
 use base::Limit;
 use base::Refusal;
@@ -28,7 +29,7 @@ use wire::be32_of;
 
 // ---- the sixteen numbers of each kind
 
-fn uplink_numbers(mhdr: MHDR, has_mic: bool, mic: u32, u: UplinkPayload) -> [u64; 16]
+fn uplink_numbers(mhdr: MHDR, has_mic: bool, mic: u32, u: UplinkPayload) -> PacketNumbers
     ensures { λ r. ⌜ r ≡ meshNumbers (record { mhdr = mhdr; payload = Uplink u; «has_mic» = «has_mic»; mic = mic }) ⌝ }
 {
     let t = mhdr.payload_type;
@@ -54,7 +55,7 @@ fn uplink_numbers(mhdr: MHDR, has_mic: bool, mic: u32, u: UplinkPayload) -> [u64
     ]
 }
 
-fn downlink_numbers(mhdr: MHDR, has_mic: bool, mic: u32, u: DownlinkPayload) -> [u64; 16]
+fn downlink_numbers(mhdr: MHDR, has_mic: bool, mic: u32, u: DownlinkPayload) -> PacketNumbers
     ensures { λ r. ⌜ r ≡ meshNumbers (record { mhdr = mhdr; payload = Downlink u; «has_mic» = «has_mic»; mic = mic }) ⌝ }
 {
     let t = mhdr.payload_type;
@@ -104,7 +105,7 @@ fn stamped_numbers(
     timestamp: u32,
     relay_id: u32,
     b: Content,
-) -> [u64; 16]
+) -> PacketNumbers
     ensures { λ r. ⌜ r ≡ listed kind mhdr «has_mic» mic (stampedFields «relay_id» timestamp) (contentPlace b) ⌝ }
 {
     let t = mhdr.payload_type;
@@ -137,7 +138,7 @@ fn read_body(
     mic: u32,
     at: u8,
     body: &[u8],
-    numbers: &mut [u64; 16],
+    numbers: &mut PacketNumbers,
     rssi: &mut i16,
     snr: &mut i8,
 ) -> u8
@@ -211,7 +212,7 @@ fn read_body(
 // ---- frames
 
 // A mesh frame: 1, 5, 2, 3, 4 with nothing changed, or 0.
-fn read_mesh(frame: &[u8], numbers: &mut [u64; 16], rssi: &mut i16, snr: &mut i8) -> u8
+fn read_mesh(frame: &[u8], numbers: &mut PacketNumbers, rssi: &mut i16, snr: &mut i8) -> u8
     ensures answer { λ r. ⌜ r ≡ numberIn (meshSays (meshOf (now (frame .entry)))) ⌝ }
     ensures numbers { λ _. ⌜ now (numbers .exit) ≡ leftBy meshNumbers (now (numbers .entry)) (meshSays (meshOf (now (frame .entry)))) ⌝ }
     ensures rssi { λ _. ⌜ now (rssi .exit) ≡ leftBy meshRssi (now (rssi .entry)) (meshSays (meshOf (now (frame .entry)))) ⌝ }
@@ -238,7 +239,7 @@ fn read_mesh(frame: &[u8], numbers: &mut [u64; 16], rssi: &mut i16, snr: &mut i8
 }
 
 // Any frame: 1, 5, 2, 4 with nothing changed, or 0.
-pub fn read_numbers(frame: &[u8], numbers: &mut [u64; 16], rssi: &mut i16, snr: &mut i8) -> u8
+pub fn read_numbers(frame: &[u8], numbers: &mut PacketNumbers, rssi: &mut i16, snr: &mut i8) -> u8
     ensures answer { λ r. ⌜ r ≡ numberIn (packetSays (packetOf (now (frame .entry)))) ⌝ }
     ensures numbers { λ _. ⌜ now (numbers .exit) ≡ leftBy numbersIn (now (numbers .entry)) (packetSays (packetOf (now (frame .entry)))) ⌝ }
     ensures rssi { λ _. ⌜ now (rssi .exit) ≡ leftBy rssiIn (now (rssi .entry)) (packetSays (packetOf (now (frame .entry)))) ⌝ }
@@ -286,7 +287,7 @@ fn read_part(
     mic: u32,
     at: u8,
     body: &[u8],
-    numbers: &mut [u64; 16],
+    numbers: &mut PacketNumbers,
     rssi: &mut i16,
     snr: &mut i8,
 ) -> u8
@@ -358,7 +359,13 @@ fn read_part(
 }
 
 // A body alone: 29, 5, 4 with nothing changed, or 0. It has no header and no MIC: hop count 0 and none stand for them.
-pub fn read_bare(kind: u8, b: &[u8], numbers: &mut [u64; 16], rssi: &mut i16, snr: &mut i8) -> u8
+pub fn read_bare(
+    kind: u8,
+    b: &[u8],
+    numbers: &mut PacketNumbers,
+    rssi: &mut i16,
+    snr: &mut i8,
+) -> u8
     ensures answer { λ r. ⌜ r ≡ numberIn (meshSays (bareBy (now (b .entry)) (typeRead kind))) ⌝ }
     ensures numbers { λ _. ⌜ now (numbers .exit) ≡ leftBy meshNumbers (now (numbers .entry)) (meshSays (bareBy (now (b .entry)) (typeRead kind))) ⌝ }
     ensures rssi { λ _. ⌜ now (rssi .exit) ≡ leftBy meshRssi (now (rssi .entry)) (meshSays (bareBy (now (b .entry)) (typeRead kind))) ⌝ }
@@ -377,7 +384,12 @@ pub fn read_bare(kind: u8, b: &[u8], numbers: &mut [u64; 16], rssi: &mut i16, sn
 }
 
 // A mesh frame: 1, 5, 2, 3, 4 with nothing changed, or 0.
-pub fn read_mesh_numbers(frame: &[u8], numbers: &mut [u64; 16], rssi: &mut i16, snr: &mut i8) -> u8
+pub fn read_mesh_numbers(
+    frame: &[u8],
+    numbers: &mut PacketNumbers,
+    rssi: &mut i16,
+    snr: &mut i8,
+) -> u8
     ensures answer { λ r. ⌜ r ≡ numberIn (meshSays (meshOf (now (frame .entry)))) ⌝ }
     ensures numbers { λ _. ⌜ now (numbers .exit) ≡ leftBy meshNumbers (now (numbers .entry)) (meshSays (meshOf (now (frame .entry)))) ⌝ }
     ensures rssi { λ _. ⌜ now (rssi .exit) ≡ leftBy meshRssi (now (rssi .entry)) (meshSays (meshOf (now (frame .entry)))) ⌝ }

@@ -4,6 +4,7 @@ ghost use Rattle.base.specs.Answers.{answerOf, outOf};
 ghost use Rattle.contents.specs.Content.{lent};
 ghost use Rattle.links.specs.Write.{uplinkWire, prefixed, withMic};
 ghost use Rattle.numbers.specs.Numbers.{numbersFrame};
+use crate::PacketNumbers;
 use crate::back::packet_of;
 use crate::back::to_type;
 use crate::back::to_u8;
@@ -51,7 +52,7 @@ fn write_in(
 }
 
 fn write_any<'a>(
-    numbers: &[u64; 16],
+    numbers: &PacketNumbers,
     rssi: i16,
     snr: i8,
     frame: &'a [u8],
@@ -75,7 +76,7 @@ fn write_any<'a>(
 // 29, then as document 01's writing order. An uplink is written straight from its numbers: as a packet it would be built in memory and taken
 // apart again.
 pub fn write_numbers<'a>(
-    numbers: &[u64; 16],
+    numbers: &PacketNumbers,
     rssi: i16,
     snr: i8,
     frame: &'a [u8],
