@@ -279,7 +279,7 @@ module _ (l : Lent) (ns : List ℕ) (rssi snr : ℤ) (out : List ℕ) where
   unfolding numbersBody answerOf
   body-numbered = by (meshFrom ns rssi snr) (mesh-numbered ns rssi snr) where
     by : (r : MeshRead) → Numbered (meshSays r) → Numbered (writtenSays (answerOf (ifMesh (λ (p : MeshPacket). limitedOf (payloadWire l (p .payload))) refused r) out))
-    by (Mesh p) s = no-refusal-is-0 .content-write l (p .payload) out
+    by (Mesh p) s = no-refusal-is-0 .body-write l (p .payload) out
     by (NoMesh n) s = s
 
 sealed-numbered : (k : List ℕ) (l : Lent) (ns out : List ℕ) → Numbered (meshSays (numbersSealed k l ns out))
@@ -344,9 +344,9 @@ pub no-refusal-is-0-for-c : NoZeroForC
 no-refusal-is-0-for-c =
     record {
       mesh-header-write = λ hops n. header-numbered hops (typeRead n) (type-numbered n);
-      mesh-read-content = λ b n. bare-numbered b (typeRead n) (type-numbered n);
+      mesh-read-body = λ b n. bare-numbered b (typeRead n) (type-numbered n);
       mesh-write = written-numbered;
-      mesh-write-content = body-numbered;
+      mesh-write-body = body-numbered;
       mesh-sign = signed-numbered;
       mesh-validate = valid-numbered;
       mesh-seal = sealed-numbered;

@@ -153,7 +153,7 @@ fields-within s h p e =
     record {
       code = code-within (p .mhdr .«payload_type»);
       hops = hops-within s h (p .mhdr) (r .header);
-      fields = payload-within (bodyIn s) b (p .mhdr .«payload_type») (p .payload) (r .content);
+      fields = payload-within (bodyIn s) b (p .mhdr .«payload_type») (p .payload) (r .body);
       tag = m;
     }
 
