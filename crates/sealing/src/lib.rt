@@ -1,4 +1,4 @@
-// Sealing and opening, with the key stream of `key_stream`: bodies, events, commands and mesh packets. Reading and writing, which need no cipher,
+// Sealing and opening, with the key stream of `key_stream`: contents, events, commands and mesh packets. Reading and writing, which need no cipher,
 // stand below.
 pub mod command;
 pub mod content;
