@@ -405,12 +405,8 @@ pub fn read_mesh_numbers(
     if n < MeshPacket::LEAST {
         return Refusal::FRAME_SHORT;
     }
-    match MHDR::from_byte(frame[0]) {
-        HeaderRead::Refused(k) => k,
-        HeaderRead::Header(mhdr) => {
-            let end = n - 4;
-            let mic = be32_of(frame[end], frame[end + 1], frame[end + 2], frame[end + 3]);
-            read_part(mhdr, true, mic, 1, &frame[1..end], numbers, rssi, snr)
-        }
+    if frame[0] / 32 != MHDR::MARK {
+        return Refusal::NOT_MESH;
     }
+    read_numbers(frame, numbers, rssi, snr)
 }
