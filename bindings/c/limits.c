@@ -648,17 +648,17 @@ static void widths(void) {
             LARGEST(kind, UINT8_MAX);
             LARGEST(payload_type, UINT8_MAX);
             LARGEST(hop_count, UINT8_MAX);
-            LARGEST(uplink_id, UINT16_MAX);
             LARGEST(dr, UINT8_MAX);
             LARGEST(frequency, UINT32_MAX);
             LARGEST(tx_power, UINT8_MAX);
             LARGEST(delay, UINT8_MAX);
             LARGEST(content, UINT8_MAX);
             for (size_t k = 0; k <= COUNT(WIDE); k++) {
-                mesh_packet none_is[4] = {p, p, p, p};
+                mesh_packet none_is[5] = {p, p, p, p, p};
                 none_is[0].mic = none_is[1].relay_id = none_is[2].timestamp = WIDE[k % COUNT(WIDE)];
                 none_is[3].channel = k < COUNT(WIDE) ? WIDE[k] : UINT8_MAX + 1;
-                for (size_t n = 0; n < 4; n++) {
+                none_is[4].uplink_id = k < COUNT(WIDE) ? WIDE[k] : UINT16_MAX + 1;
+                for (size_t n = 0; n < COUNT(none_is); n++) {
                     none(none_is[n], &l);
                     CHECK(do_decrypt(&none_is[n], l.frame, 3, NULL, 0) == 29 && do_decode(&none_is[n], l.frame, 3, NULL, 0) == 29);
                     mesh_record_of known = {7, 7, 7, 7};
@@ -675,15 +675,99 @@ static void widths(void) {
         }
 #undef LARGEST
     mesh_packet p = good(MESH_UPLINK);
-    CHECK((p.dr = 300, do_write(false, &p, &NONE, 99)) == 9 && (p.uplink_id = 1ull << 16, do_write(false, &p, &NONE, 99)) == 8);
+    CHECK((p.dr = 300, do_write(false, &p, &NONE, 99)) == 9 && (p.uplink_id = 1ull << 16, do_write(false, &p, &NONE, 99)) == 29);
+    p.uplink_id = 0;
     CHECK((p.hop_count = 300, do_write(false, &p, &NONE, 99)) == 7 && (p.relay_id = 1ull << 32, do_write(false, &p, &NONE, 99)) == 29);
     p = good(MESH_DOWNLINK);
     CHECK((p.frequency = 1ull << 32, do_write(false, &p, &NONE, 99)) == 17 && (p.delay = 257, do_write(false, &p, &NONE, 99)) == 16);
     CHECK((p.tx_power = 256, do_write(false, &p, &NONE, 99)) == 15 && (p.payload_type = 256, do_write(false, &p, &NONE, 99)) == 29);
     p = good(MESH_EVENT);
     CHECK((p.content = 256, do_write(false, &p, &NONE, 99)) == 29 && (p.content = 0, p.kind = 256, do_write(false, &p, &NONE, 99)) == 29);
+    /* Of each number that include/mesh.table has a refusal for: a packet that has it is refused so, and any other not otherwise. */
+#define WIDER(field, bits, refusal)                                                                                                          \
+    do {                                                                                                                                     \
+        int refused = 0;                                                                                                                     \
+        for (uint8_t kind = MESH_UPLINK; kind <= MESH_COMMAND; kind++) {                                                                     \
+            mesh_packet w = good(kind);                                                                                                      \
+            w.field = 1ull << (bits);                                                                                                        \
+            uint8_t r = do_write(false, &w, &NONE, 99);                                                                                      \
+            refused += r == (refusal);                                                                                                       \
+            CHECK(r == 0 || r == (refusal));                                                                                                 \
+        }                                                                                                                                    \
+        CHECK(refused > 0);                                                                                                                  \
+    } while (0)
+#define RECORD_WIDER(field, bits, refusal)                                                                                                   \
+    do {                                                                                                                                     \
+        mesh_cache c;                                                                                                                        \
+        mesh_record_of w = {0, 0, 0, 0};                                                                                                     \
+        bool is_new = false;                                                                                                                 \
+        CHECK(mesh_cache_clear(c.words, 1) == 0);                                                                                            \
+        w.field = 1ull << (bits);                                                                                                            \
+        CHECK(mesh_cache_see(&c, &w, &is_new) == (refusal) && !is_new);                                                                      \
+        CHECK((is_new = true, mesh_cache_see(&c, &w, &is_new)) == (refusal) && is_new);                                                      \
+        w.field = 0;                                                                                                                         \
+        CHECK(mesh_cache_see(&c, &w, &is_new) == 0 && is_new && mesh_cache_see(&c, &w, &is_new) == 0 && !is_new);                            \
+    } while (0)
+/* from include/mesh.table: widths */
+    WIDER(kind, 8, MESH_TYPE_LARGE);
+    WIDER(payload_type, 8, MESH_TYPE_LARGE);
+    WIDER(hop_count, 8, MESH_HOPS_MANY);
+    WIDER(mic, 32, MESH_TYPE_LARGE);
+    WIDER(relay_id, 32, MESH_TYPE_LARGE);
+    WIDER(uplink_id, 16, MESH_TYPE_LARGE);
+    WIDER(dr, 8, MESH_DR_LARGE);
+    WIDER(channel, 8, MESH_TYPE_LARGE);
+    WIDER(frequency, 32, MESH_FREQUENCY_LARGE);
+    WIDER(tx_power, 8, MESH_TX_POWER_LARGE);
+    WIDER(delay, 8, MESH_DELAY_LARGE);
+    WIDER(timestamp, 32, MESH_TYPE_LARGE);
+    WIDER(content, 8, MESH_TYPE_LARGE);
+    RECORD_WIDER(type, 8, MESH_TYPE_LARGE);
+    RECORD_WIDER(uplink_id, 16, MESH_TYPE_LARGE);
+    RECORD_WIDER(timestamp, 32, MESH_TYPE_LARGE);
+    RECORD_WIDER(relay_id, 32, MESH_TYPE_LARGE);
+/* end */
+#undef WIDER
+#undef RECORD_WIDER
     p = good(MESH_UPLINK);
     CHECK((p.has_mic = 2, do_write(false, &p, &NONE, 99)) == 0 && written_length == 14 && (p.has_mic = 0, do_write(false, &p, &NONE, 99)) == 27);
+}
+
+/* Null for each slice that has nothing, and a refusal that leaves what it would have answered. */
+static void beside_null(void) {
+    const uint8_t kinds[2][2] = {{MESH_ITEM_PATH, 0}, {MESH_ITEM_PROPRIETARY, 1}}, nothing[1] = {0};
+    const uint32_t spans[2][2] = {{0, 2}, {0, 3}};
+    for (int item = 0; item < 2; item++) {
+        const bool path = item == 0;
+        const mesh_lent whole = {nothing, 0, path ? nothing : value, path ? 0 : 3, &kinds[item], 1, &spans[item], 1, ids, path ? 2 : 0, rssis, path ? 2 : 0, snrs, path ? 2 : 0};
+        mesh_packet p = at(MESH_EVENT, MESH_ITEMS, 0, 1);
+        uint8_t want[99], got[99];
+        uint64_t n = 0, m = 0;
+        CHECK(mesh_packet_write(&p, &whole, want, sizeof want, &n) == 0 && n == (path ? 27u : 18u));
+        for (int slice = 0; slice < 32; slice++) {
+            mesh_lent l = whole;
+            if (slice & 1) l.frame = NULL;
+            if (slice & 2 && path) l.work = NULL;
+            if (slice & 4 && !path) l.ids = NULL;
+            if (slice & 8 && !path) l.rssis = NULL;
+            if (slice & 16 && !path) l.snrs = NULL;
+            CHECK(mesh_packet_write(&p, &l, got, sizeof got, &m) == 0 && m == n && memcmp(want, got, n) == 0);
+        }
+    }
+    mesh_lent l = mesh_lent_frame(value, 3);
+    mesh_packet p = at(MESH_UPLINK, 0, 0, 3);
+    uint8_t out[99];
+    uint64_t length;
+    l.work_len = 40;
+    CHECK(mesh_packet_write(&p, &l, out, sizeof out, &length) == 45);
+    l.work_len = 0, l.ids_len = 1;
+    CHECK(mesh_packet_write(&p, &l, out, sizeof out, &length) == 45);
+    l.ids_len = 0;
+    CHECK(mesh_packet_write(&p, &l, out, sizeof out, &length) == 0);
+    const uint8_t key[16] = {0};
+    bool valid = true;
+    p.has_mic = 0;
+    CHECK(mesh_packet_validate(&p, key, &l, &valid) == 27 && valid && (valid = false, mesh_packet_validate(&p, key, &l, &valid)) == 27 && !valid);
 }
 
 static void codes(void) {
@@ -1614,6 +1698,7 @@ int main(void) {
     composing();
     codes();
     widths();
+    beside_null();
     shared();
     hops();
     validated();

@@ -3,7 +3,7 @@ use std::fmt;
 
 use crate::fields::{PayloadType, RelayId};
 use crate::raw;
-use crate::raw::Known;
+use crate::raw::RecordNumbers;
 use crate::sys::MESH_CACHE_WORDS;
 use crate::Refusal;
 
@@ -36,7 +36,7 @@ impl Cache {
 
     /// True where the record is none of the last; it is added then, and the oldest leaves a full cache. A hit changes nothing.
     pub fn add(&mut self, record: &Record) -> Result<bool, Refusal> {
-        let known = Known {
+        let known = RecordNumbers {
             type_: record.p_type.to_byte(),
             uplink_id: record.uplink_id,
             timestamp: record.timestamp,

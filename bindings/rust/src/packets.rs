@@ -4,7 +4,7 @@ use crate::fields::{DownlinkMetadata, Header, PayloadType, RelayId, UplinkMetada
 use crate::items::{Command, Composed, Item, Items, Lists, Opening};
 use crate::keys::Key;
 use crate::raw;
-use crate::raw::{Flat, Place};
+use crate::raw::{PacketNumbers, Place};
 use crate::sys::{MESH_EMPTY, MESH_ITEMS, MESH_LORA, MESH_OPEN_IN_FRAME, MESH_OPEN_IN_WORK, MESH_SEALED};
 use crate::Refusal;
 use crate::{part, FRAME_MOST};
@@ -33,7 +33,7 @@ impl<'a> Packet<'a> {
         match self {
             Packet::Mesh(p) => p.write(out),
             Packet::Lora(frame) => {
-                let f = Flat { kind: MESH_LORA, len: frame.len() as u64, ..Flat::default() };
+                let f = PacketNumbers { kind: MESH_LORA, len: frame.len() as u64, ..PacketNumbers::default() };
                 raw::write(&f, &Lists::default().lent(frame), out)
             }
         }
@@ -134,7 +134,7 @@ fn allocated(write: impl FnOnce(&mut [u8]) -> Result<usize, Refusal>) -> Result<
 }
 
 impl<'a, I> Content<'a, I> {
-    fn of(f: &Flat, frame: &'a [u8]) -> Result<Self, Refusal> {
+    fn of(f: &PacketNumbers, frame: &'a [u8]) -> Result<Self, Refusal> {
         Ok(match f.content {
             MESH_EMPTY => Content::Empty,
             MESH_SEALED => Content::Sealed(part(frame, f.start, f.len)?),
@@ -180,7 +180,7 @@ impl<'a, I> Content<'a, I> {
         lists
     }
 
-    fn encrypt(&mut self, f: &Flat, key: &Key, out: &'a mut [u8]) -> Result<(), Refusal>
+    fn encrypt(&mut self, f: &PacketNumbers, key: &Key, out: &'a mut [u8]) -> Result<(), Refusal>
     where
         I: Composed,
     {
@@ -188,13 +188,13 @@ impl<'a, I> Content<'a, I> {
         self.moved(to, out)
     }
 
-    fn decrypt(&mut self, f: &Flat, key: &Key, work: &'a mut [u8]) -> Result<Opening, Refusal> {
+    fn decrypt(&mut self, f: &PacketNumbers, key: &Key, work: &'a mut [u8]) -> Result<Opening, Refusal> {
         let (counts, to) = raw::decrypt(f, key.bytes(), self.held(), work)?;
         self.moved(to, work)?;
         Ok(Opening::of(counts))
     }
 
-    fn decode(&mut self, f: &Flat) -> Result<Option<Opening>, Refusal> {
+    fn decode(&mut self, f: &PacketNumbers) -> Result<Option<Opening>, Refusal> {
         let Some((counts, to)) = raw::decode(f, self.held(), &[])? else {
             return Ok(None);
         };
@@ -216,7 +216,7 @@ impl<'a, I> Content<'a, I> {
 }
 
 impl<'a> UplinkPayload<'a> {
-    fn of(f: &Flat, frame: &'a [u8]) -> Result<Self, Refusal> {
+    fn of(f: &PacketNumbers, frame: &'a [u8]) -> Result<Self, Refusal> {
         Ok(UplinkPayload {
             metadata: UplinkMetadata { uplink_id: f.uplink_id, dr: f.dr, rssi: f.rssi, snr: f.snr, channel: f.channel },
             relay_id: f.relay_id.into(),
@@ -224,9 +224,9 @@ impl<'a> UplinkPayload<'a> {
         })
     }
 
-    fn flat(&self) -> Flat {
+    fn flat(&self) -> PacketNumbers {
         let m = &self.metadata;
-        Flat {
+        PacketNumbers {
             kind: PayloadType::Uplink.to_byte(),
             payload_type: PayloadType::Uplink.to_byte(),
             relay_id: self.relay_id.number(),
@@ -236,7 +236,7 @@ impl<'a> UplinkPayload<'a> {
             snr: m.snr,
             channel: m.channel,
             len: self.phy_payload.len() as u64,
-            ..Flat::default()
+            ..PacketNumbers::default()
         }
     }
 
@@ -257,7 +257,7 @@ impl<'a> UplinkPayload<'a> {
 }
 
 impl<'a> DownlinkPayload<'a> {
-    fn of(f: &Flat, frame: &'a [u8]) -> Result<Self, Refusal> {
+    fn of(f: &PacketNumbers, frame: &'a [u8]) -> Result<Self, Refusal> {
         Ok(DownlinkPayload {
             metadata: DownlinkMetadata { uplink_id: f.uplink_id, dr: f.dr, frequency: f.frequency, tx_power: f.tx_power, delay: f.delay },
             relay_id: f.relay_id.into(),
@@ -265,9 +265,9 @@ impl<'a> DownlinkPayload<'a> {
         })
     }
 
-    fn flat(&self) -> Flat {
+    fn flat(&self) -> PacketNumbers {
         let m = &self.metadata;
-        Flat {
+        PacketNumbers {
             kind: PayloadType::Downlink.to_byte(),
             payload_type: PayloadType::Downlink.to_byte(),
             relay_id: self.relay_id.number(),
@@ -277,7 +277,7 @@ impl<'a> DownlinkPayload<'a> {
             tx_power: m.tx_power,
             delay: m.delay,
             len: self.phy_payload.len() as u64,
-            ..Flat::default()
+            ..PacketNumbers::default()
         }
     }
 
@@ -297,8 +297,8 @@ impl<'a> DownlinkPayload<'a> {
     }
 }
 
-fn stamped(kind: PayloadType, timestamp: u32, relay_id: RelayId, at: Place) -> Flat {
-    Flat {
+fn stamped(kind: PayloadType, timestamp: u32, relay_id: RelayId, at: Place) -> PacketNumbers {
+    PacketNumbers {
         kind: kind.to_byte(),
         payload_type: kind.to_byte(),
         relay_id: relay_id.number(),
@@ -306,16 +306,16 @@ fn stamped(kind: PayloadType, timestamp: u32, relay_id: RelayId, at: Place) -> F
         content: at.content,
         start: at.start,
         len: at.len,
-        ..Flat::default()
+        ..PacketNumbers::default()
     }
 }
 
 impl<'a> EventPayload<'a> {
-    fn of(f: &Flat, frame: &'a [u8]) -> Result<Self, Refusal> {
+    fn of(f: &PacketNumbers, frame: &'a [u8]) -> Result<Self, Refusal> {
         Ok(EventPayload { timestamp: f.timestamp, relay_id: f.relay_id.into(), events: Content::of(f, frame)? })
     }
 
-    fn flat(&self) -> Flat {
+    fn flat(&self) -> PacketNumbers {
         stamped(PayloadType::Event, self.timestamp, self.relay_id, self.events.place())
     }
 
@@ -357,11 +357,11 @@ impl<'a> EventPayload<'a> {
 }
 
 impl<'a> CommandPayload<'a> {
-    fn of(f: &Flat, frame: &'a [u8]) -> Result<Self, Refusal> {
+    fn of(f: &PacketNumbers, frame: &'a [u8]) -> Result<Self, Refusal> {
         Ok(CommandPayload { timestamp: f.timestamp, relay_id: f.relay_id.into(), commands: Content::of(f, frame)? })
     }
 
-    fn flat(&self) -> Flat {
+    fn flat(&self) -> PacketNumbers {
         stamped(PayloadType::Command, self.timestamp, self.relay_id, self.commands.place())
     }
 
@@ -402,7 +402,7 @@ impl<'a> CommandPayload<'a> {
 }
 
 impl<'a> Payload<'a> {
-    fn of(f: &Flat, frame: &'a [u8]) -> Result<Self, Refusal> {
+    fn of(f: &PacketNumbers, frame: &'a [u8]) -> Result<Self, Refusal> {
         Ok(match PayloadType::from_byte(f.kind)? {
             PayloadType::Uplink => Payload::Uplink(UplinkPayload::of(f, frame)?),
             PayloadType::Downlink => Payload::Downlink(DownlinkPayload::of(f, frame)?),
@@ -421,7 +421,7 @@ impl<'a> Payload<'a> {
         }
     }
 
-    fn flat(&self) -> Flat {
+    fn flat(&self) -> PacketNumbers {
         match self {
             Payload::Uplink(p) => p.flat(),
             Payload::Downlink(p) => p.flat(),
@@ -449,7 +449,7 @@ impl<'a> Payload<'a> {
 }
 
 impl<'a> MeshPacket<'a> {
-    fn of(f: &Flat, frame: &'a [u8]) -> Result<Self, Refusal> {
+    fn of(f: &PacketNumbers, frame: &'a [u8]) -> Result<Self, Refusal> {
         Ok(MeshPacket {
             mhdr: Header { payload_type: PayloadType::from_byte(f.payload_type)?, hop_count: f.hop_count },
             payload: Payload::of(f, frame)?,
@@ -457,8 +457,8 @@ impl<'a> MeshPacket<'a> {
         })
     }
 
-    fn flat(&self) -> Flat {
-        Flat {
+    fn flat(&self) -> PacketNumbers {
+        PacketNumbers {
             payload_type: self.mhdr.payload_type.to_byte(),
             hop_count: self.mhdr.hop_count,
             has_mic: self.mic.is_some(),

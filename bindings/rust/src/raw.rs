@@ -12,7 +12,7 @@ use crate::Refusal;
 // from include/mesh.table: numbers
 /// A packet's numbers, each as wide as its field.
 #[derive(Clone, Copy, Default)]
-pub(crate) struct Flat {
+pub(crate) struct PacketNumbers {
     pub kind: u8,
     pub payload_type: u8,
     pub hop_count: u8,
@@ -33,10 +33,10 @@ pub(crate) struct Flat {
     pub snr: i8,
 }
 
-impl Flat {
+impl PacketNumbers {
     // What the library stores is no wider than its field.
-    fn of(n: [u64; MESH_PACKET_NUMBERS], rssi: i16, snr: i8) -> Flat {
-        Flat {
+    fn of(n: [u64; MESH_PACKET_NUMBERS], rssi: i16, snr: i8) -> PacketNumbers {
+        PacketNumbers {
             kind: n[0] as u8,
             payload_type: n[1] as u8,
             hop_count: n[2] as u8,
@@ -82,17 +82,17 @@ impl Flat {
 
 /// A record's numbers, each as wide as its field.
 #[derive(Clone, Copy, Default)]
-pub(crate) struct Known {
+pub(crate) struct RecordNumbers {
     pub type_: u8,
     pub uplink_id: u16,
     pub timestamp: u32,
     pub relay_id: u32,
 }
 
-impl Known {
+impl RecordNumbers {
     // What the library stores is no wider than its field.
-    fn of(n: [u64; MESH_RECORD_NUMBERS]) -> Known {
-        Known { type_: n[0] as u8, uplink_id: n[1] as u16, timestamp: n[2] as u32, relay_id: n[3] as u32 }
+    fn of(n: [u64; MESH_RECORD_NUMBERS]) -> RecordNumbers {
+        RecordNumbers { type_: n[0] as u8, uplink_id: n[1] as u16, timestamp: n[2] as u32, relay_id: n[3] as u32 }
     }
 
     fn numbers(&self) -> [u64; MESH_RECORD_NUMBERS] {
@@ -167,7 +167,7 @@ fn answer(number: u8) -> Result<(), Refusal> {
 
 /// The place that a call left in the numbers of a packet.
 fn place(numbers: [u64; MESH_PACKET_NUMBERS]) -> Place {
-    let Flat { content, start, len, .. } = Flat::of(numbers, 0, 0);
+    let PacketNumbers { content, start, len, .. } = PacketNumbers::of(numbers, 0, 0);
     Place { content, start, len }
 }
 
@@ -183,49 +183,53 @@ macro_rules! with_lent {
     };
 }
 
+// Version 1 has no such function: the crate is not linked with an archive of it.
+#[used]
+static ASKED: unsafe extern "C" fn() -> u32 = sys::mesh_version;
+
 pub(crate) fn version() -> u32 {
     unsafe { sys::mesh_version() }
 }
 
 // ---- frames
 
-pub(crate) fn read(frame: &[u8]) -> Result<Flat, Refusal> {
+pub(crate) fn read(frame: &[u8]) -> Result<PacketNumbers, Refusal> {
     let (mut numbers, mut rssi, mut snr) = ([0; MESH_PACKET_NUMBERS], 0, 0);
     answer(unsafe { sys::mesh_read(frame.as_ptr(), frame.len(), &mut numbers, &mut rssi, &mut snr) })?;
-    Ok(Flat::of(numbers, rssi, snr))
+    Ok(PacketNumbers::of(numbers, rssi, snr))
 }
 
-pub(crate) fn read_mesh(frame: &[u8]) -> Result<Flat, Refusal> {
+pub(crate) fn read_mesh(frame: &[u8]) -> Result<PacketNumbers, Refusal> {
     let (mut numbers, mut rssi, mut snr) = ([0; MESH_PACKET_NUMBERS], 0, 0);
     answer(unsafe { sys::mesh_read_mesh(frame.as_ptr(), frame.len(), &mut numbers, &mut rssi, &mut snr) })?;
-    Ok(Flat::of(numbers, rssi, snr))
+    Ok(PacketNumbers::of(numbers, rssi, snr))
 }
 
-pub(crate) fn read_body(kind: u8, body: &[u8]) -> Result<Flat, Refusal> {
+pub(crate) fn read_body(kind: u8, body: &[u8]) -> Result<PacketNumbers, Refusal> {
     let (mut numbers, mut rssi, mut snr) = ([0; MESH_PACKET_NUMBERS], 0, 0);
     answer(unsafe { sys::mesh_read_body(kind, body.as_ptr(), body.len(), &mut numbers, &mut rssi, &mut snr) })?;
-    Ok(Flat::of(numbers, rssi, snr))
+    Ok(PacketNumbers::of(numbers, rssi, snr))
 }
 
-pub(crate) fn write(p: &Flat, l: &Lent, out: &mut [u8]) -> Result<usize, Refusal> {
+pub(crate) fn write(p: &PacketNumbers, l: &Lent, out: &mut [u8]) -> Result<usize, Refusal> {
     let mut length = 0;
     answer(with_lent!(mesh_write, [&p.numbers(), p.rssi, p.snr], l, out.as_mut_ptr(), out.len(), &mut length))?;
     Ok(length as usize)
 }
 
-pub(crate) fn write_body(p: &Flat, l: &Lent, out: &mut [u8]) -> Result<usize, Refusal> {
+pub(crate) fn write_body(p: &PacketNumbers, l: &Lent, out: &mut [u8]) -> Result<usize, Refusal> {
     let mut length = 0;
     answer(with_lent!(mesh_write_body, [&p.numbers(), p.rssi, p.snr], l, out.as_mut_ptr(), out.len(), &mut length))?;
     Ok(length as usize)
 }
 
-pub(crate) fn sign(p: &Flat, key: &[u8; 16], l: &Lent) -> Result<u32, Refusal> {
+pub(crate) fn sign(p: &PacketNumbers, key: &[u8; 16], l: &Lent) -> Result<u32, Refusal> {
     let mut numbers = p.numbers();
     answer(with_lent!(mesh_sign, [&mut numbers, p.rssi, p.snr, key], l))?;
-    Ok(Flat::of(numbers, p.rssi, p.snr).mic)
+    Ok(PacketNumbers::of(numbers, p.rssi, p.snr).mic)
 }
 
-pub(crate) fn validate(p: &Flat, key: &[u8; 16], l: &Lent) -> Result<bool, Refusal> {
+pub(crate) fn validate(p: &PacketNumbers, key: &[u8; 16], l: &Lent) -> Result<bool, Refusal> {
     let mut valid = 0;
     answer(with_lent!(mesh_validate, [&p.numbers(), p.rssi, p.snr, key], l, &mut valid))?;
     Ok(valid != 0)
@@ -235,13 +239,13 @@ pub(crate) fn set_hop_count(key: &[u8; 16], frame: &mut [u8], hop_count: u8) -> 
     answer(unsafe { sys::mesh_set_hop_count(key, frame.as_mut_ptr(), frame.len(), hop_count) })
 }
 
-pub(crate) fn seal(p: &Flat, key: &[u8; 16], l: &Lent, out: &mut [u8]) -> Result<Place, Refusal> {
+pub(crate) fn seal(p: &PacketNumbers, key: &[u8; 16], l: &Lent, out: &mut [u8]) -> Result<Place, Refusal> {
     let mut numbers = p.numbers();
     answer(with_lent!(mesh_seal, [&mut numbers, key], l, out.as_mut_ptr(), out.len()))?;
     Ok(place(numbers))
 }
 
-pub(crate) fn decrypt(p: &Flat, key: &[u8; 16], frame: &[u8], work: &mut [u8]) -> Result<(Counts, Place), Refusal> {
+pub(crate) fn decrypt(p: &PacketNumbers, key: &[u8; 16], frame: &[u8], work: &mut [u8]) -> Result<(Counts, Place), Refusal> {
     let (mut numbers, mut counts) = (p.numbers(), [0; MESH_COUNTS_NUMBERS]);
     let (from, n) = (frame.as_ptr(), frame.len());
     answer(unsafe { sys::mesh_decrypt(&mut numbers, key, from, n, work.as_mut_ptr(), work.len(), &mut counts) })?;
@@ -249,7 +253,7 @@ pub(crate) fn decrypt(p: &Flat, key: &[u8; 16], frame: &[u8], work: &mut [u8]) -
 }
 
 /// `None` where the payload is open already.
-pub(crate) fn decode(p: &Flat, frame: &[u8], work: &[u8]) -> Result<Option<(Counts, Place)>, Refusal> {
+pub(crate) fn decode(p: &PacketNumbers, frame: &[u8], work: &[u8]) -> Result<Option<(Counts, Place)>, Refusal> {
     let (mut numbers, mut counts) = (p.numbers(), [0; MESH_COUNTS_NUMBERS]);
     match unsafe { sys::mesh_decode(&mut numbers, frame.as_ptr(), frame.len(), work.as_ptr(), work.len(), &mut counts) } {
         0 => Ok(Some((Counts::of(counts), place(numbers)))),
@@ -444,17 +448,17 @@ pub(crate) fn mac(cipher: &[u32; MESH_CIPHER_WORDS], message: &[u8]) -> [u8; 16]
 
 // ---- duplicates and text
 
-pub(crate) fn record(p: &Flat) -> Result<Known, Refusal> {
+pub(crate) fn record(p: &PacketNumbers) -> Result<RecordNumbers, Refusal> {
     let mut record = [0; MESH_RECORD_NUMBERS];
     answer(unsafe { sys::mesh_record(&p.numbers(), &mut record) })?;
-    Ok(Known::of(record))
+    Ok(RecordNumbers::of(record))
 }
 
 pub(crate) fn cache_clear(words: &mut [u32; MESH_CACHE_WORDS], size: u32) -> Result<(), Refusal> {
     answer(unsafe { sys::mesh_cache_clear(words, size) })
 }
 
-pub(crate) fn cache_add(words: &mut [u32; MESH_CACHE_WORDS], record: &Known) -> Result<bool, Refusal> {
+pub(crate) fn cache_add(words: &mut [u32; MESH_CACHE_WORDS], record: &RecordNumbers) -> Result<bool, Refusal> {
     let mut is_new = 0;
     answer(unsafe { sys::mesh_cache_add(words, &record.numbers(), &mut is_new) })?;
     Ok(is_new != 0)

@@ -652,20 +652,20 @@ fn answers(p: &P, frame: &[u8]) -> impl PartialEq + std::fmt::Debug {
 fn numbers_that_are_wide() {
     let three = [1, 2, 3];
     type Set = fn(&mut P, u64);
-    let largest: [(u64, Set); 9] = [
+    let largest: [(u64, Set); 8] = [
         (255, |p, n| p.kind = n),
         (255, |p, n| p.payload_type = n),
         (255, |p, n| p.hop_count = n),
-        (65_535, |p, n| p.uplink_id = n),
         (255, |p, n| p.dr = n),
         (4_294_967_295, |p, n| p.frequency = n),
         (255, |p, n| p.tx_power = n),
         (255, |p, n| p.delay = n),
         (255, |p, n| p.content = n),
     ];
-    let none: [(u64, Set); 4] = [
+    let none: [(u64, Set); 5] = [
         (4_294_967_296, |p, n| p.mic = n),
         (4_294_967_296, |p, n| p.relay_id = n),
+        (65_536, |p, n| p.uplink_id = n),
         (256, |p, n| p.channel = n),
         (4_294_967_296, |p, n| p.timestamp = n),
     ];
@@ -702,7 +702,7 @@ fn numbers_that_are_wide() {
     let (up, down, event) = (good(UPLINK), good(DOWNLINK), good(EVENT));
     for (number, p) in [
         (7, P { hop_count: 300, ..up }),
-        (8, P { uplink_id: 1 << 16, ..up }),
+        (29, P { uplink_id: 1 << 16, ..up }),
         (9, P { dr: 300, ..up }),
         (15, P { tx_power: 256, ..down }),
         (16, P { delay: 257, ..down }),

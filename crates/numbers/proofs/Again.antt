@@ -49,7 +49,7 @@ at-most most n h = simp (le-ltb most n h)
 not-wide : (ns : List ℕ) → Fits ns → tooWide ns ≡ false
 unfolding tooWide
 not-wide ns f =
-    simp (le-ltb micMost (getD ns 4 0) (f .mic), le-ltb relayIdMost (getD ns 5 0) (f .relay), le-ltb channelMost (getD ns 8 0) (f .channel), le-ltb timestampMost (getD ns 12 0) (f .time))
+    simp (le-ltb micMost (getD ns 4 0) (f .mic), le-ltb relayIdMost (getD ns 5 0) (f .relay), le-ltb 65535 (getD ns 6 0) (f .id), le-ltb channelMost (getD ns 8 0) (f .channel), le-ltb timestampMost (getD ns 12 0) (f .time))
 
 bit-back : (b : Bool) → not (eqb (bit b) 0) ≡ b
 bit-back true = refl

@@ -45,10 +45,10 @@ type-most n = by (ltb 255 n) refl where
   by true h = let k : 255 < n = ltb-true 255 n h in no-type 255 (omega arith) ∙ sym (no-type n (omega arith))
   by false h = refl
 
-pub wide-last : (ns : List ℕ) → getD ns 4 0 ≤ micMost → getD ns 5 0 ≤ relayIdMost → getD ns 8 0 ≤ channelMost
+pub wide-last : (ns : List ℕ) → getD ns 4 0 ≤ micMost → getD ns 5 0 ≤ relayIdMost → getD ns 6 0 ≤ 65535 → getD ns 8 0 ≤ channelMost
     → tooWide ns ≡ ltb timestampMost (getD ns 12 0)
 unfolding tooWide
-wide-last ns a b c = simp (le-ltb micMost (getD ns 4 0) a, le-ltb relayIdMost (getD ns 5 0) b, le-ltb channelMost (getD ns 8 0) c)
+wide-last ns a b c d = simp (le-ltb micMost (getD ns 4 0) a, le-ltb relayIdMost (getD ns 5 0) b, le-ltb 65535 (getD ns 6 0) c, le-ltb channelMost (getD ns 8 0) d)
 
 module _ (ns : List ℕ) (r z : ℤ) (b : Bool) (e : b ≡ tooWide ns) where
   pub mesh-wide : b ≡ true → meshFrom ns r z ≡ Refused typeLarge

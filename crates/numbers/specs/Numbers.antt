@@ -137,11 +137,13 @@ bareBy b (NoKind n) = Refused n
 unfoldable pub atMost : ℕ → ℕ → ℕ
 atMost most n = pick (ltb most n) most n
 
--- a MIC, relay id, channel or timestamp wider than its field: of these every value that the field holds is good, so nothing later would refuse it
+-- a MIC, relay id, uplink id, channel or timestamp wider than its field: nothing later would refuse it, in a frame or in a record, and two packets
+-- would be taken for one
 unfoldable pub tooWide : List ℕ → Bool
 tooWide ns =
     pick (ltb micMost (getD ns 4 0)) true
-    (pick (ltb relayIdMost (getD ns 5 0)) true (pick (ltb channelMost (getD ns 8 0)) true (ltb timestampMost (getD ns 12 0))))
+    (pick (ltb relayIdMost (getD ns 5 0)) true
+    (pick (ltb 65535 (getD ns 6 0)) true (pick (ltb channelMost (getD ns 8 0)) true (ltb timestampMost (getD ns 12 0)))))
 
 -- a content code over 4 of an event or a command; of other kinds it does not count
 unfoldable pub strangeContent : List ℕ → Bool

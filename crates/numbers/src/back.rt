@@ -65,7 +65,7 @@ pub fn to_type(n: u64) -> TypeRead
 
 // ---- what no packet has, before all else
 
-// A MIC, relay id, channel or timestamp that is wider than its field.
+// A MIC, relay id, uplink id, channel or timestamp that is wider than its field.
 pub fn too_wide(numbers: &PacketNumbers) -> bool
     ensures { λ r. ⌜ r ≡ tooWide (now (numbers .entry)) ⌝ }
 {
@@ -73,6 +73,9 @@ pub fn too_wide(numbers: &PacketNumbers) -> bool
         return true;
     }
     if (RelayId::MOST as u64) < numbers[5] {
+        return true;
+    }
+    if 65535 < numbers[6] {
         return true;
     }
     if (Channel::MOST as u64) < numbers[8] {

@@ -356,8 +356,8 @@ no-refusal-is-0-for-c =
       mesh-cache-add = added-numbered;
     }
 
--- 29 of numbers that are no packet, before all else that they say: a MIC, relay id or timestamp over 32 bits and a channel over 8, whatever the
--- kind, and a body that is none, of an event or a command
+-- 29 of numbers that are no packet, before all else that they say: a MIC, relay id or timestamp over 32 bits, an uplink id over 16 and a
+-- channel over 8, whatever the kind, and a content that is none, of an event or a command
 pub wide-refused : (ns : List ℕ) (rssi snr : ℤ) → tooWide ns ≡ true
     → (meshSays (meshFrom ns rssi snr) ≡ number typeLarge) × (packetSays (packetFrom ns rssi snr) ≡ number typeLarge)
 unfolding meshFrom packetFrom
@@ -367,7 +367,7 @@ wide-refused ns rssi snr h = (simp h, simp h)
 pub relay-id-whole : (ns : List ℕ) (rssi snr : ℤ) → relayIdMost < getD ns 5 0 → packetSays (packetFrom ns rssi snr) ≡ number typeLarge
 unfolding tooWide
 relay-id-whole ns rssi snr h = wide-refused ns rssi snr (by (ltb micMost (getD ns 4 0))) .1 where
-  by : (t : Bool) → pick t true (pick (ltb relayIdMost (getD ns 5 0)) true (pick (ltb channelMost (getD ns 8 0)) true (ltb timestampMost (getD ns 12 0)))) ≡ true
+  by : (t : Bool) → pick t true (pick (ltb relayIdMost (getD ns 5 0)) true (pick (ltb 65535 (getD ns 6 0)) true (pick (ltb channelMost (getD ns 8 0)) true (ltb timestampMost (getD ns 12 0))))) ≡ true
   by true = refl
   by false = simp (lt-ltb relayIdMost (getD ns 5 0) h)
 
