@@ -132,7 +132,7 @@ numbersWork k ns frame work = ifMesh (λ (p : MeshPacket). meshWork k (p .payloa
 unfoldable pub numbersDecoded : List ℕ → List ℕ → List ℕ → MeshOpened
 numbersDecoded ns frame work = ifMesh (λ (p : MeshPacket). meshDecoded p (p .payload) frame work) NotOpened (meshFrom ns (pos 0) (pos 0))
 
--- the numbers after, in place: those before with the MIC, or with body, start and len; all as before on a refusal
+-- the numbers after, in place: those before with the MIC, or with content, start and len; all as before on a refusal
 abbrev pub signedLeft : List ℕ → Answer MeshPacket → List ℕ
 signedLeft ns a = leftBy (λ (p : MeshPacket). micSet ns (p .mic)) ns a
 

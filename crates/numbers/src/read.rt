@@ -278,8 +278,8 @@ pub fn read_numbers(frame: &[u8], numbers: &mut PacketNumbers, rssi: &mut i16, s
     0
 }
 
-// ---- the same of a mesh frame and of a body alone. The compiler takes a function that has one caller into that, so the two above serve reading
-// any frame alone, which then has no calls; these, which say the same, are for those who know what they read.
+// ---- a body alone. The compiler takes a function that has one caller into that: so `read_body` serves reading frames alone, which then has no
+// calls, and this, which says the same, those who know what they read.
 
 fn read_part(
     mhdr: MHDR,

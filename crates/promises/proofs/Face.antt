@@ -108,13 +108,13 @@ opened-left ev (bytes c) w h = by (ltb (length w) (length c)) refl where
   by true q = simp q
   by false q = absurd (h (simp q))
 
-body-left : (key : List ℕ) (ev : Bool) (relay time : ℕ) (b : Content) (f w : List ℕ)
+content-left : (key : List ℕ) (ev : Bool) (relay time : ℕ) (b : Content) (f w : List ℕ)
     → (openedNumber (openedSays (decryptOf key ev relay time b f w)) ≡ 0 → ⊥) → workAfter key ev relay time b f w ≡ w
 unfolding decryptOf workAfter
-body-left key ev relay time Empty f w h = refl
-body-left key ev relay time (Sealed r) f w h = opened-left ev (sealWire key ev relay time f r) w h
-body-left key ev relay time (Open d r) f w h = refl
-body-left key ev relay time (Items k) f w h = refl
+content-left key ev relay time Empty f w h = refl
+content-left key ev relay time (Sealed r) f w h = opened-left ev (sealWire key ev relay time f r) w h
+content-left key ev relay time (Open d r) f w h = refl
+content-left key ev relay time (Items k) f w h = refl
 
 event-number : (p : MeshPacket) (u : EventPayload) (o : Opened) → openedNumber (openedSays o) ≡ openedNumber (meshOpenedSays (ofEventOpened p (eventOpened u o)))
 event-number p u (opened.Opened b k) = refl
@@ -132,10 +132,10 @@ packet-left key p (payload.Uplink u) f w h = refl
 packet-left key p (payload.Downlink u) f w h = refl
 packet-left key p (payload.Event u) f w h =
     let o = decryptOf key true (u .«relay_id») (u .timestamp) (u .events) f w in
-    body-left key true (u .«relay_id») (u .timestamp) (u .events) f w (λ e. h (sym (event-number p u o) ∙ e))
+    content-left key true (u .«relay_id») (u .timestamp) (u .events) f w (λ e. h (sym (event-number p u o) ∙ e))
 packet-left key p (payload.Command u) f w h =
     let o = decryptOf key false (u .«relay_id») (u .timestamp) (u .commands) f w in
-    body-left key false (u .«relay_id») (u .timestamp) (u .commands) f w (λ e. h (sym (command-number p u o) ∙ e))
+    content-left key false (u .«relay_id») (u .timestamp) (u .commands) f w (λ e. h (sym (command-number p u o) ∙ e))
 
 work-left : (k ns frame work : List ℕ) → (openedNumber (meshOpenedSays (numbersDecrypted k ns frame work)) ≡ 0 → ⊥) → numbersWork k ns frame work ≡ work
 unfolding numbersDecrypted numbersWork
@@ -391,9 +391,9 @@ strange-packet ns rssi snr n m = by (tooWide ns) where
   by true = refl
   by false = simp (ne-eqb (getD ns 0 0) 4 n) (of-mesh (meshFrom ns rssi snr) m)
 
-pub strange-body-refused : (ns : List ℕ) (rssi snr : ℤ) → 1 < getD ns 0 0 → 4 < getD ns 13 0
+pub strange-content-refused : (ns : List ℕ) (rssi snr : ℤ) → 1 < getD ns 0 0 → 4 < getD ns 13 0
     → (meshSays (meshFrom ns rssi snr) ≡ number typeLarge) × ((getD ns 0 0 ≡ 4 → ⊥) → packetSays (packetFrom ns rssi snr) ≡ number typeLarge)
-strange-body-refused ns rssi snr k b = (strange-mesh ns rssi snr k b, λ n. strange-packet ns rssi snr n (strange-mesh ns rssi snr k b))
+strange-content-refused ns rssi snr k b = (strange-mesh ns rssi snr k b, λ n. strange-packet ns rssi snr n (strange-mesh ns rssi snr k b))
 
 -- so each of the three ways in which the face gives its number is 0 exactly if the call accepted
 pub zero-is-success : {A : Type 0} (a : Answer A) → Numbered a → (numberIn a ≡ 0 → Accepts a) × (Accepts a → numberIn a ≡ 0)

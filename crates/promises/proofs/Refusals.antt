@@ -622,11 +622,11 @@ pub record NoZero : Type 0 where
   pub mesh-decrypt : (key : List ℕ) (p : MeshPacket) (q : Payload) (f w : List ℕ) → Numbered (meshOpenedSays (meshDecrypted key p q f w))
   pub event-decrypt : (key : List ℕ) (relay time : ℕ) (u : EventPayload) (f w : List ℕ) → Numbered (eventOpenedSays (eventOpened u (decryptOf key true relay time (u .events) f w)))
   pub command-decrypt : (key : List ℕ) (relay time : ℕ) (u : CommandPayload) (f w : List ℕ) → Numbered (commandOpenedSays (commandOpened u (decryptOf key false relay time (u .commands) f w)))
-  pub body-decrypt : (key : List ℕ) (ev : Bool) (relay time : ℕ) (b : Content) (f w : List ℕ) → Numbered (openedSays (decryptOf key ev relay time b f w))
+  pub content-decrypt : (key : List ℕ) (ev : Bool) (relay time : ℕ) (b : Content) (f w : List ℕ) → Numbered (openedSays (decryptOf key ev relay time b f w))
   pub mesh-decode : (p : MeshPacket) (q : Payload) (f w : List ℕ) → Numbered (meshOpenedSays (meshDecoded p q f w))
   pub event-decode : (u : EventPayload) (f w : List ℕ) → Numbered (eventOpenedSays (eventOpened u (decodeOf true (u .events) f w)))
   pub command-decode : (u : CommandPayload) (f w : List ℕ) → Numbered (commandOpenedSays (commandOpened u (decodeOf false (u .commands) f w)))
-  pub body-decode : (ev : Bool) (b : Content) (f w : List ℕ) → Numbered (openedSays (decodeOf ev b f w))
+  pub content-decode : (ev : Bool) (b : Content) (f w : List ℕ) → Numbered (openedSays (decodeOf ev b f w))
   -- signed, validated, edited, under any cipher
   pub set-mic : (E : List ℕ → List ℕ) (l : Lent) (p : MeshPacket) → Numbered (meshSays (setMic E l p))
   pub validate-mic : (E : List ℕ → List ℕ) (l : Lent) (p : MeshPacket) → Numbered (validSays (validateMic E l p))
@@ -677,11 +677,11 @@ no-refusal-is-0 =
       mesh-decrypt = mesh-decrypted;
       event-decrypt = λ key relay time u f w. event-opened-by u (decryptOf key true relay time (u .events) f w) (decrypted key true relay time (u .events) f w);
       command-decrypt = λ key relay time u f w. command-opened-by u (decryptOf key false relay time (u .commands) f w) (decrypted key false relay time (u .commands) f w);
-      body-decrypt = decrypted;
+      content-decrypt = decrypted;
       mesh-decode = mesh-decoded;
       event-decode = λ u f w. event-opened-by u (decodeOf true (u .events) f w) (decoded true (u .events) f w);
       command-decode = λ u f w. command-opened-by u (decodeOf false (u .commands) f w) (decoded false (u .commands) f w);
-      body-decode = decoded;
+      content-decode = decoded;
       set-mic = signed;
       validate-mic = validated;
       set-hop-count = λ E s n. checks (hopEdit E s n) (leaves (hopEdit E s n) s) (hop-edit E s n);

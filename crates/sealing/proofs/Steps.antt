@@ -95,7 +95,7 @@ seal-is key ev relay time f r k v e h q =
     ∙ ap (sealedOf key ev relay time) q
     ∙ not-refused (runRefusal (length f) r) (sealedOf key ev relay time (runBytes f r)) (sym e ∙ h)
 
--- ---- a body, written and with the stream added
+-- ---- a content, written and with the stream added
 
 module _ (key : List ℕ) (ev : Bool) (relay time : ℕ) (l : Lent) (b : Content) (o : List ℕ) (k : ℕ) (ek : k ≡ contentRefusal ev l b) where
   abbrev clear : List ℕ
@@ -109,18 +109,18 @@ module _ (key : List ℕ) (ev : Bool) (relay time : ℕ) (l : Lent) (b : Content
   seal-refused h = refuses _ k o (sym (unless-refused k _ sealed ek h))
 
   module _ (z : k ≡ 0) (n : ℕ) (en : n ≡ capped (length (contentBytes ev l b))) where
-    -- what is answered of the bytes is answered of the body
-    as-body : (a : Written) (x : List ℕ) → Outcome a x sealed o → Outcome a x (contentSeal key ev relay time l b) o
+    -- what is answered of the bytes is answered of the content
+    as-content : (a : Written) (x : List ℕ) → Outcome a x sealed o → Outcome a x (contentSeal key ev relay time l b) o
     unfolding contentSeal
-    as-body a x = same-frame _ sealed a x o (sym (not-refused (contentRefusal ev l b) sealed (sym ek ∙ z)))
+    as-content a x = same-frame _ sealed a x o (sym (not-refused (contentRefusal ev l b) sealed (sym ek ∙ z)))
 
     pub seal-long : 8179 < n → Outcome (NotWritten frameLong) o (contentSeal key ev relay time l b) o
-    seal-long h = as-body (NotWritten frameLong) o (too-long key ev relay time clear o (capped-large n _ en h))
+    seal-long h = as-content (NotWritten frameLong) o (too-long key ev relay time clear o (capped-large n _ en h))
 
     pub seal-short : n ≤ 8179 → length o < n → Outcome (NotWritten outputShort) o (contentSeal key ev relay time l b) o
     seal-short f h =
         let s : n ≡ length (contentBytes ev l b) = capped-small n _ en f in
-        as-body (NotWritten outputShort) o (too-short key ev relay time clear o (omega arith) (omega arith))
+        as-content (NotWritten outputShort) o (too-short key ev relay time clear o (omega arith) (omega arith))
 
     pub seal-done : Block key → n ≤ 8179 → n ≤ length o → {x y e : List ℕ} → x ≡ put o 0 (contentBytes ev l b) → e ≡ prepared key
         → y ≡ streamed (enciphered e) (numbered ev relay time) (take n x) → Outcome (Bytes n) (y ++ drop n x) (contentSeal key ev relay time l b) o
@@ -128,4 +128,4 @@ module _ (key : List ℕ) (ev : Bool) (relay time : ℕ) (l : Lent) (b : Content
         let s : n ≡ length (contentBytes ev l b) = capped-small n _ en f in
         let i = sealed-in key ev relay time clear o c (omega arith) (omega arith) {l = x} {x = y} {e = e} ex ee
         (ey ∙ ap (λ (j : ℕ). streamed (enciphered e) (numbered ev relay time) (take j x)) s) in
-        rw s (as-body (Bytes (length (contentBytes ev l b))) (y ++ drop (length (contentBytes ev l b)) x) i)
+        rw s (as-content (Bytes (length (contentBytes ev l b))) (y ++ drop (length (contentBytes ev l b)) x) i)
