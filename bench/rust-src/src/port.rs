@@ -90,7 +90,7 @@ pub fn read(frame: &[u8]) -> Packet {
     p
 }
 
-/// The sixteen numbers alone, and rssi and snr.
+/// The numbers alone, and rssi and snr.
 pub fn read_numbers(frame: &[u8], n: &mut Numbers, rssi: &mut i16, snr: &mut i8) {
     held(unsafe { sys::mesh_read(frame.as_ptr(), frame.len(), n, rssi, snr) });
 }

@@ -1,4 +1,4 @@
-// Whole frames. A packet goes in as it comes out: as sixteen numbers, and rssi and snr beside them (crate `numbers`).
+// Whole frames. A packet goes in as it comes out: as numbers, and rssi and snr beside them (crate `numbers`).
 ghost use mathlib.Core.Path.{_≡_};
 ghost use lib.IntN.{pos};
 ghost use Rattle.base.specs.Answers.{answerOf, outOf, numberIn, leftBy, writtenSays, checkedOf, checkedNumber};

@@ -1,4 +1,4 @@
--- A packet as numbers, and back. The sixteen, in their order: kind, payload_type, hop_count, has_mic, mic, relay_id, uplink_id, dr, channel,
+-- A packet as numbers, and back. They are, in their order: kind, payload_type, hop_count, has_mic, mic, relay_id, uplink_id, dr, channel,
 -- frequency, tx_power, delay, timestamp, content, start, len. Beside them stand rssi and snr. Assumes nothing.
 use Prim.Native.Nat.{ℕ}
 use mathlib.Core.Bool.{Bool, true, false, not}

@@ -27,7 +27,7 @@ use links::UplinkRead;
 use packets::MeshPacket;
 use wire::be32_of;
 
-// ---- the sixteen numbers of each kind
+// ---- the numbers of each kind
 
 fn uplink_numbers(mhdr: MHDR, has_mic: bool, mic: u32, u: UplinkPayload) -> PacketNumbers
     ensures { λ r. ⌜ r ≡ meshNumbers (record { mhdr = mhdr; payload = Uplink u; «has_mic» = «has_mic»; mic = mic }) ⌝ }
