@@ -40,7 +40,8 @@ pub fn uplinks(ups: &[Up]) {
             assert!(edited == p.to_vec().unwrap());
         }
 
-        let known = port::record(&ours);
+        let mut known = [0; crate::sys::MESH_RECORD_NUMBERS];
+        port::record_into(&ours, &mut known);
         let made = cache::record(PayloadType::Uplink, known[1] as u16, known[2] as u32, (known[3] as u32).to_be_bytes());
         assert!(known[0] == 0 && made == cache::PayloadCache::from(&theirs));
 

@@ -133,11 +133,10 @@ pub fn item(payload: &[u8], at: u64) -> [u64; MESH_ITEM_NUMBERS] {
     item
 }
 
-/// Type, uplink id, timestamp and relay id.
-pub fn record(p: &Packet) -> Known {
-    let mut known = [0; MESH_RECORD_NUMBERS];
-    held(unsafe { sys::mesh_record(p.numbers(), &mut known) });
-    known
+/// As the header's `mesh_packet_record`: type, uplink id, timestamp and relay id.
+#[inline]
+pub fn record_into(p: &Packet, known: &mut Known) {
+    held(unsafe { sys::mesh_record(p.numbers(), known) });
 }
 
 pub struct Cache(pub [u32; MESH_CACHE_WORDS]);

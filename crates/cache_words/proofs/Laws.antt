@@ -19,7 +19,7 @@ use Rattle.cache.specs.Cache.{packOf, sameRecord, has, answers}
 use Rattle.cache.specs.inner.Ring.{emptyRing, newOf, addedOf, pushedOf, ringAnswers}
 use Rattle.cache.proofs.Steps.{has-more}
 use Rattle.cache.proofs.Laws.{pack-same, adds-list}
-use Rattle.cache_words.specs.inner.Packed.{sizeIn, headAt, timeAt, relayAt, clearedWords, isAt, isBelow, storedAt, pushedWords, addAnswer, addWords, packedAnswers, noRecord, SmallId, SmallIds}
+use Rattle.cache_words.specs.inner.Packed.{sizeIn, headAt, timeAt, relayAt, clearedWords, isAt, isBelow, storedAt, pushedWords, addsAnswer, addsWords, addAnswer, addWords, packedAnswers, noRecord, SmallId, SmallIds}
 
 -- ---- one place
 
@@ -197,7 +197,7 @@ pub record Follows (w : List ℕ) (c : Cache) (r : PayloadCache) : Type 0 where
   pub holds : Holds (addWords w r) (addedOf c r .cache)
 
 pub follows : (w : List ℕ) (c : Cache) → Holds w c → (r : PayloadCache) → SmallId r → Follows w c r
-unfolding addAnswer addWords addedOf
+unfolding addsAnswer addsWords addedOf
 follows w c g r f = go (ltb (c .size) 1) (ltb 64 (c .size)) (has (take (ring.ringCount c) (c .slots)) r) refl refl refl
   where
     go : (a b d : Bool) → ltb (c .size) 1 ≡ a → ltb 64 (c .size) ≡ b → has (take (ring.ringCount c) (c .slots)) r ≡ d → Follows w c r

@@ -16,7 +16,7 @@ use Rattle.cache.specs.declared.record.PayloadCache.{PayloadCache}
 use Rattle.cache.specs.declared.ring.CacheAnswer.{CacheAnswer}
 use Rattle.cache.specs.declared.ring.CacheAnswer.the-variants.{New, Seen, Refused}
 use Rattle.cache.specs.Cache.{packOf}
-use Rattle.cache_words.specs.inner.Packed.{sizeIn, countIn, headAt, timeAt, relayAt, isAt, isBelow, storedAt, Ready, pushedWords, addAnswer, addWords}
+use Rattle.cache_words.specs.inner.Packed.{sizeIn, countIn, headAt, timeAt, relayAt, isAt, isBelow, storedAt, Ready, pushedWords, addsAnswer, addsWords}
 
 -- ---- the first places
 
@@ -60,49 +60,56 @@ pushed-is w p size n g m em v ev l el = rw (ev, el, em, g .is-count, g .is-size)
 
 -- ---- answers
 
--- what `add` answers, and leaves
-pub record Adds (w : List ℕ) (r : PayloadCache) (a : CacheAnswer) (v : List ℕ) : Type 0 where
-  pub answer : a ≡ addAnswer w r
-  pub words : v ≡ addWords w r
+-- what `add_words` answers, and leaves
+pub record Adds (w p : List ℕ) (a : CacheAnswer) (v : List ℕ) : Type 0 where
+  pub answer : a ≡ addsAnswer w p
+  pub words : v ≡ addsWords w p
 
-module _ (w : List ℕ) (r : PayloadCache) (size : ℕ) (is-size : size ≡ sizeIn w) where
-  pub add-none : size < 1 → Adds w r (Refused cacheSize) w
-  unfolding addAnswer addWords
+pub ready : (w : List ℕ) (size : ℕ) → size ≡ sizeIn w → 1 ≤ size → size ≤ 64 → (m n : ℕ) → m ≡ getD w 1 0 → n ≡ min m size → Ready w size n
+ready w size is-size some most m n is-length is-count =
+    record { some = some; most = most; is-size = is-size; is-count = rw (is-count, is-length, is-size) refl }
+
+module _ (w p : List ℕ) (size : ℕ) (is-size : size ≡ sizeIn w) where
+  pub add-none : size < 1 → Adds w p (Refused cacheSize) w
+  unfolding addsAnswer addsWords
   add-none h =
       let k : sizeIn w < 1 = omega arith in
       record { answer = rw (lt-ltb (sizeIn w) 1 k) refl; words = rw (lt-ltb (sizeIn w) 1 k) refl }
 
-  pub add-large : 1 ≤ size → 64 < size → Adds w r (Refused cacheSize) w
-  unfolding addAnswer addWords
+  pub add-large : 1 ≤ size → 64 < size → Adds w p (Refused cacheSize) w
+  unfolding addsAnswer addsWords
   add-large h k =
       let h′ : 1 ≤ sizeIn w = omega arith in
       let k′ : 64 < sizeIn w = omega arith in
       record { answer = rw (le-ltb (sizeIn w) 1 h′, lt-ltb 64 (sizeIn w) k′) refl; words = rw (le-ltb (sizeIn w) 1 h′, lt-ltb 64 (sizeIn w) k′) refl }
 
-  module _ (some : 1 ≤ size) (most : size ≤ 64) (m n : ℕ) (is-length : m ≡ getD w 1 0) (is-count : n ≡ min m size) (p : List ℕ) (packed : p ≡ packOf r) where
-    pub ready : Ready w size n
-    ready = record { some = some; most = most; is-size = is-size; is-count = rw (is-count, is-length, is-size) refl }
+  module _ (some : 1 ≤ size) (most : size ≤ 64) (m n : ℕ) (is-length : m ≡ getD w 1 0) (is-count : n ≡ min m size) where
+    module _ (b : Bool) (is-b : b ≡ isBelow w p n) where
+      below-is : b ≡ isBelow w p (countIn w)
+      below-is = is-b ∙ rw (ready w size is-size some most m n is-length is-count .is-count) refl
 
-    module _ (b : Bool) (is-b : b ≡ isBelow w (getD p 0 0 ∷ getD p 1 0 ∷ getD p 2 0 ∷ []) n) where
-      below-is : b ≡ isBelow w (packOf r) (countIn w)
-      unfolding packOf
-      below-is = is-b ∙ rw (packed, ready .is-count) refl
-
-      pub add-seen : b ≡ true → Adds w r Seen w
-      unfolding addAnswer addWords
+      pub add-seen : b ≡ true → Adds w p Seen w
+      unfolding addsAnswer addsWords
       add-seen e =
           let h : 1 ≤ sizeIn w = omega arith in
           let k : sizeIn w ≤ 64 = omega arith in
-          let t : isBelow w (packOf r) (countIn w) ≡ true = sym below-is ∙ e in
+          let t : isBelow w p (countIn w) ≡ true = sym below-is ∙ e in
           record { answer = rw (le-ltb (sizeIn w) 1 h, le-ltb 64 (sizeIn w) k, t) refl; words = rw (le-ltb (sizeIn w) 1 h, le-ltb 64 (sizeIn w) k, t) refl }
 
-      pub add-new : b ≡ false → (v : List ℕ) → v ≡ pushedWords w p → Adds w r New v
-      unfolding addAnswer addWords
+      pub add-new : b ≡ false → (v : List ℕ) → v ≡ pushedWords w p → Adds w p New v
+      unfolding addsAnswer addsWords
       add-new e v ev =
           let h : 1 ≤ sizeIn w = omega arith in
           let k : sizeIn w ≤ 64 = omega arith in
-          let t : isBelow w (packOf r) (countIn w) ≡ false = sym below-is ∙ e in
+          let t : isBelow w p (countIn w) ≡ false = sym below-is ∙ e in
           record {
             answer = rw (le-ltb (sizeIn w) 1 h, le-ltb 64 (sizeIn w) k, t) refl;
-            words = ev ∙ rw (le-ltb (sizeIn w) 1 h, le-ltb 64 (sizeIn w) k, t, packed) refl;
+            words = ev ∙ rw (le-ltb (sizeIn w) 1 h, le-ltb 64 (sizeIn w) k, t) refl;
           }
+
+-- ---- a record's words
+
+pub adds-packed : (w : List ℕ) (r : PayloadCache) (p : List ℕ) → p ≡ packOf r → (a : CacheAnswer) (v : List ℕ)
+    → Adds w (getD p 0 0 ∷ getD p 1 0 ∷ getD p 2 0 ∷ []) a v → Adds w (packOf r) a v
+unfolding packOf
+adds-packed w r p e a v g = rw e at g

@@ -2,7 +2,7 @@
 ghost use mathlib.Core.Path.{_≡_};
 ghost use Prim.Native.Nat.{_<_, _≤_};
 ghost use mathlib.Core.List.{[], _∷_};
-ghost use Rattle.cache_words.specs.inner.Packed.{clearAnswer, clearWords, isBelow, storedAt, Ready, pushedWords, addAnswer, addWords};
+ghost use Rattle.cache_words.specs.inner.Packed.{clearAnswer, clearWords, isBelow, storedAt, Ready, pushedWords, addsAnswer, addsWords, addAnswer, addWords};
 use base::Checked;
 use base::Limit;
 use base::Refusal;
@@ -80,10 +80,11 @@ fn push(words: &mut Words, p: [u32; 3], size: usize, n: usize)
     words[2] = ((at + 1) % size) as u32;
 }
 
-// A record that is there changes nothing; any other takes the next place, which is the oldest's where the cache is full.
-pub fn add(words: &mut Words, r: PayloadCache) -> CacheAnswer
-    ensures answer { λ a. ⌜ a ≡ addAnswer (now (words .entry)) r ⌝ }
-    ensures words { λ _. ⌜ now (words .exit) ≡ addWords (now (words .entry)) r ⌝ }
+// A record that is there changes nothing; any other takes the next place, which is the oldest's where the cache is full. By its three words, for a
+// caller that has its numbers and no record.
+pub fn add_words(words: &mut Words, head: u32, time: u32, relay: u32) -> CacheAnswer
+    ensures answer { λ a. ⌜ a ≡ addsAnswer (now (words .entry)) (head ∷ time ∷ relay ∷ []) ⌝ }
+    ensures words { λ _. ⌜ now (words .exit) ≡ addsWords (now (words .entry)) (head ∷ time ∷ relay ∷ []) ⌝ }
 {
     let size = size_of(words[0]);
     if size < Limit::CACHE_LEAST {
@@ -93,10 +94,17 @@ pub fn add(words: &mut Words, r: PayloadCache) -> CacheAnswer
         return CacheAnswer::Refused(Refusal::CACHE_SIZE);
     }
     let n = least(size_of(words[1]), size);
-    let p = r.pack();
-    if is_below(words, p[0], p[1], p[2], n) {
+    if is_below(words, head, time, relay, n) {
         return CacheAnswer::Seen;
     }
-    push(words, p, size, n);
+    push(words, [head, time, relay], size, n);
     CacheAnswer::New
+}
+
+pub fn add(words: &mut Words, r: PayloadCache) -> CacheAnswer
+    ensures answer { λ a. ⌜ a ≡ addAnswer (now (words .entry)) r ⌝ }
+    ensures words { λ _. ⌜ now (words .exit) ≡ addWords (now (words .entry)) r ⌝ }
+{
+    let p = r.pack();
+    add_words(words, p[0], p[1], p[2])
 }

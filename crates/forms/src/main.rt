@@ -8,6 +8,7 @@ use base::Written;
 use cache::Cache;
 use cache::CacheAnswer;
 use cache::PayloadCache;
+use cache_words::Words;
 use contents::Content;
 use contents::Held;
 use events::CommandPayload;
@@ -112,6 +113,23 @@ fn p12() {
     holds(b"new after A B A         ", c3);
     holds(b"new after A B A C       ", c4);
     holds(b"new after A B A C A B   ", c6);
+}
+
+// The same in the words that C lends, by records.
+fn p12_in_words() {
+    say(b"P12 in words            ");
+    let mut words: Words = [0; 195];
+    match cache_words::clear(&mut words, 2) {
+        Checked::Accepted => {}
+        Checked::Refused(n) => plain(b" refused ", n as u64),
+    }
+    answer(cache_words::add(&mut words, record(1)));
+    answer(cache_words::add(&mut words, record(2)));
+    answer(cache_words::add(&mut words, record(1)));
+    answer(cache_words::add(&mut words, record(3)));
+    answer(cache_words::add(&mut words, record(1)));
+    answer(cache_words::add(&mut words, record(2)));
+    say(b"\n");
 }
 
 fn refused_size(label: &[u8], size: usize) {
@@ -356,6 +374,7 @@ fn two_bytes() {
 
 fn main() {
     p12();
+    p12_in_words();
     refused_size(b"cache of 0              ", 0);
     refused_size(b"cache of 65             ", 65);
     paths();

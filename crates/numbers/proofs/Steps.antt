@@ -125,10 +125,6 @@ module _ (s : List ℕ) where
         pub no-header : (n : ℕ) → NoHeader n ≡ headerOf (getD s 0 0) → meshOf s ≡ Refused n
         no-header n q = by-header ∙ ap (withHeader s) (sym q)
 
-        pub not-mesh : (getD s 0 0 / 32 ≡ 7 → ⊥) → meshOf s ≡ Refused 3
-        unfolding headerOf
-        not-mesh m = no-header 3 (simp (ne-eqb (getD s 0 0 / 32) 7 m))
-
         pub with-header : (a : MHDR) (mic : ℕ) → Header a ≡ headerOf (getD s 0 0) → mic ≡ fourAt s (length s - 4)
             → meshOf s ≡ around a true mic (bodyRead 1 (a .«payload_type») (bodyIn s))
         with-header a mic q m =
@@ -156,12 +152,6 @@ pub mesh-any : (p : PacketRead) (m : MeshRead) (xs : List ℕ) (r z : ℤ) (n : 
 unfolding numbersIn rssiIn snrIn
 mesh-any p (Mesh q) xs r z n ys r' z' e a = rw e a
 mesh-any p (Refused k) xs r z n ys r' z' e a = rw e a
-
-pub any-mesh : (p : PacketRead) (m : MeshRead) (xs : List ℕ) (r z : ℤ) (n : ℕ) (ys : List ℕ) (r' z' : ℤ) → p ≡ ofMesh m
-    → LeftAny p xs r z n ys r' z' → Left m xs r z n ys r' z'
-unfolding numbersIn rssiIn snrIn
-any-mesh p (Mesh q) xs r z n ys r' z' e a = rw e at a
-any-mesh p (Refused k) xs r z n ys r' z' e a = rw e at a
 
 -- ---- the numbers of an event or a command
 

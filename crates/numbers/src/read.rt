@@ -383,7 +383,7 @@ pub fn read_bare(
     }
 }
 
-// A mesh frame: 1, 5, 2, 3, 4 with nothing changed, or 0.
+// A mesh frame: 1, 5, 2, 3, 4 with nothing changed, or 0. As `read_mesh`, which has one caller too.
 pub fn read_mesh_numbers(
     frame: &[u8],
     numbers: &mut PacketNumbers,
@@ -405,8 +405,12 @@ pub fn read_mesh_numbers(
     if n < MeshPacket::LEAST {
         return Refusal::FRAME_SHORT;
     }
-    if frame[0] / 32 != MHDR::MARK {
-        return Refusal::NOT_MESH;
+    match MHDR::from_byte(frame[0]) {
+        HeaderRead::Refused(k) => k,
+        HeaderRead::Header(mhdr) => {
+            let end = n - 4;
+            let mic = be32_of(frame[end], frame[end + 1], frame[end + 2], frame[end + 3]);
+            read_part(mhdr, true, mic, 1, &frame[1..end], numbers, rssi, snr)
+        }
     }
-    read_numbers(frame, numbers, rssi, snr)
 }

@@ -34,7 +34,7 @@ use Rattle.sealing.specs.declared.content.Opened.the-variants as opened
 use Rattle.heartbeats.specs.Heartbeat.{beatRefusal, beatOf, pathAfter, beatSays}
 use Rattle.cache.specs.Cache.{has, addSays, packOf}
 use Rattle.cache.specs.inner.Ring.{ringCount, addedOf}
-use Rattle.cache_words.specs.inner.Packed.{sizeIn, countIn, isBelow, clearAnswer, clearWords, addAnswer, addWords}
+use Rattle.cache_words.specs.inner.Packed.{sizeIn, countIn, isBelow, clearAnswer, clearWords, addsAnswer, addsWords, addAnswer, addWords}
 use Rattle.cache.specs.declared.record.PayloadCache.{PayloadCache}
 use Rattle.cache.specs.declared.ring.Cache.{Cache}
 use Rattle.hops.specs.Hops.{leaves}
@@ -160,7 +160,7 @@ refused-clear-changes-nothing size w n e = clear-by size w (ltb size 1) (ltb cac
 
 words-by : (w : List ℕ) (r : PayloadCache) (a b h : Bool) → ltb (sizeIn w) 1 ≡ a → ltb cacheMost (sizeIn w) ≡ b → isBelow w (packOf r) (countIn w) ≡ h
     → (n : ℕ) → addSays (addAnswer w r) ≡ number n → addWords w r ≡ w
-unfolding addAnswer addWords
+unfolding addsAnswer addsWords
 words-by w r true b h p q g n e = simp p
 words-by w r false true h p q g n e = simp (p, q)
 words-by w r false false true p q g n e = simp (p, q, g)

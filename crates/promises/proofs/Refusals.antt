@@ -96,7 +96,7 @@ use Rattle.cache.specs.declared.record.PayloadCache.{PayloadCache}
 use Rattle.cache.specs.declared.ring.Cache.{Cache}
 use Rattle.cache.specs.declared.ring.CacheNew.{CacheNew}
 use Rattle.cache.specs.declared.ring.Added.{Added}
-use Rattle.cache_words.specs.inner.Packed.{sizeIn, countIn, isBelow, clearAnswer, addAnswer}
+use Rattle.cache_words.specs.inner.Packed.{sizeIn, countIn, isBelow, clearAnswer, addsAnswer, addAnswer}
 use Rattle.promises.specs.Said.{Accepts, Numbered, reachSays}
 
 -- ---- what the number of an answer says
@@ -564,7 +564,7 @@ cleared-words size =
     picked (λ (c : Checked). checkedSays c size) (ltb size 1) _ _ (omega arith) (picked (λ (c : Checked). checkedSays c size) (ltb cacheMost size) _ _ (omega arith) tt)
 
 added-word : (w : List ℕ) (r : PayloadCache) → Numbered (addSays (addAnswer w r))
-unfolding addAnswer
+unfolding addsAnswer
 added-word w r =
     picked addSays (ltb (sizeIn w) 1) _ _ (omega arith)
     (picked addSays (ltb cacheMost (sizeIn w)) _ _ (omega arith) (picked addSays (isBelow w (packOf r) (countIn w)) _ _ tt tt))

@@ -78,15 +78,22 @@ pushedWords w p = set (set (storedAt w p (placeIn w)) 1 (min (countIn w + 1) (si
 
 -- ---- adding: 24 for a size of 0 or over 64; a record that is there changes nothing
 
-unfoldable pub addAnswer : List ℕ → PayloadCache → CacheAnswer
-addAnswer w r =
+-- of its three words
+unfoldable pub addsAnswer : List ℕ → List ℕ → CacheAnswer
+addsAnswer w p =
     pick (ltb (sizeIn w) cacheLeast) (Refused cacheSize)
-    (pick (ltb cacheMost (sizeIn w)) (Refused cacheSize) (pick (isBelow w (packOf r) (countIn w)) Seen New))
+    (pick (ltb cacheMost (sizeIn w)) (Refused cacheSize) (pick (isBelow w p (countIn w)) Seen New))
 
-unfoldable pub addWords : List ℕ → PayloadCache → List ℕ
-addWords w r =
-    pick (ltb (sizeIn w) cacheLeast) w
-    (pick (ltb cacheMost (sizeIn w)) w (pick (isBelow w (packOf r) (countIn w)) w (pushedWords w (packOf r))))
+unfoldable pub addsWords : List ℕ → List ℕ → List ℕ
+addsWords w p =
+    pick (ltb (sizeIn w) cacheLeast) w (pick (ltb cacheMost (sizeIn w)) w (pick (isBelow w p (countIn w)) w (pushedWords w p)))
+
+-- of the record
+abbrev pub addAnswer : List ℕ → PayloadCache → CacheAnswer
+addAnswer w r = addsAnswer w (packOf r)
+
+abbrev pub addWords : List ℕ → PayloadCache → List ℕ
+addWords w r = addsWords w (packOf r)
 
 -- the answers to records that are added one after the other
 unfoldable pub packedAnswers : List ℕ → List PayloadCache → List CacheAnswer

@@ -1,7 +1,7 @@
 -- `numbers::read::read_mesh_numbers` meets its contract. Assumes nothing.
-use Rattle.packets.specs.Read.{meshOf}
+use mathlib.Core.Path.{sym, _∙_}
 use denote.Ref.{now}
-use Rattle.numbers.proofs.Steps.{kept, any-mesh, mesh-empty, mesh-long, mesh-short, not-mesh, mesh}
+use Rattle.numbers.proofs.Steps.{kept, same, mesh-empty, mesh-long, mesh-short, no-header, with-header}
 use borrow.Author.Needs.{needs}
 use Rattle.numbers.proofs.read.read_mesh_numbers.Statement.{statement}
 use Rattle.numbers.proofs.read.read_mesh_numbers.Tie as tie
@@ -20,11 +20,11 @@ returns-3 c =
 
 returns-4 : tie.Need-returns-4
 returns-4 c =
-    kept _ 3 _ _ _ (not-mesh (now (c .before .before .before .before .before .before .args .frame)) (c .before .before .before .before .if1 .left) (c .before .before .before .if2 .left) (c .before .before .if3 .left) (c .if4 .taken))
+    kept _ _ _ _ _ (no-header (now (c .before .before .before .before .before .before .before .before .before .args .frame)) (c .before .before .before .before .before .before .before .if1 .left) (c .before .before .before .before .before .before .if2 .left) (c .before .before .before .before .before .if3 .left) _ (sym (c .before .k .given .1) ∙ c .before .before .before .from-byte .ensures))
 
 returns-5 : tie.Need-returns-5
 returns-5 c =
-    any-mesh _ (meshOf (now (c .before .before .before .before .before .before .before .before .before .before .args .frame))) _ _ _ _ _ _ _ (mesh (now (c .before .before .before .before .before .before .before .before .before .before .args .frame)) (c .before .before .before .before .before .before .before .before .if1 .left) (c .before .before .before .before .before .before .before .if2 .left) (c .before .before .before .before .if4 .left)) (c .read-numbers .ensures)
+    same _ _ _ _ _ _ _ _ _ (with-header (now (c .before .before .before .before .before .before .before .before .before .before .before .before .before .before .before .before .before .before .before .args .frame)) (c .before .before .before .before .before .before .before .before .before .before .before .before .before .before .before .before .before .if1 .left) (c .before .before .before .before .before .before .before .before .before .before .before .before .before .before .before .before .if2 .left) (c .before .before .before .before .before .before .before .before .before .before .before .before .before .before .before .if3 .left) _ _ (sym (c .before .before .before .before .before .before .before .before .before .before .before .mhdr .given .1) ∙ c .before .before .before .before .before .before .before .before .before .before .before .before .before .from-byte .ensures) (c .before .before .before .before .before .be32-of .ensures)) (c .read-part .ensures)
 
 pub read-mesh-numbers-spec : {M : Type 1} → statement M
-read-mesh-numbers-spec = tie.close (tie.spec returns returns-2 returns-3 (λ c. search needs) returns-4 (λ c κs. search needs) returns-5)
+read-mesh-numbers-spec = tie.close (tie.spec returns returns-2 returns-3 (λ c. search needs) (λ c κs. search needs) (λ c. search needs) (λ c. search needs) (λ c. search needs) (λ c. search needs) (λ c. search needs) (λ c. search needs) (λ c. search needs) (λ c. search needs) (λ c. search needs) (λ c. search needs) (λ c κs. search needs) (λ c. search needs) (λ c. search needs) (λ c. search needs) (λ c κs. search needs) returns-4 returns-5)
