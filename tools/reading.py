@@ -58,9 +58,14 @@ DECLARES = re.compile(rf'(\s*)({WORDS})(?:(record|data)\s+([^\s:(){{}}]+)|([^\s:
 @functools.cache
 def declarations(path):
     """The declarations of an antt file in their order; and the lines that belong to none, such as fixities, but for the header's."""
-    said, loose, blocks, open_ = [], [], [], None
+    said, loose, blocks, open_, head = [], [], [], None, ''
     for number, line in enumerate(bare(path.read_text()).splitlines(), 1):
+        # a block's head may take several lines
+        line, head = head + ' ' * bool(head) + (line.strip() if head else line), ''
         if not line.strip() or re.match(r'(?:unfoldable |pub )*(?:use|mod)\b', line): continue
+        if re.match(r'\s*module\b(?!.*\bwhere\b)', line):
+            head = line.rstrip()
+            continue
         deep = len(line) - len(line.lstrip())
         if open_ and (deep > open_[0] or line[deep] in '})'):
             open_[1].append(line.rstrip())
@@ -82,10 +87,10 @@ def declarations(path):
             open_ = (deep, loose)
     return said, loose
 
-def file_of(module):
+def file_of(module, root=ROOT):
     """The file of a module of this repository, or None: the kit's, or a type that a source declares."""
     m = re.fullmatch(r'(?:package\.)?Rattle·(\w+)(?:·(?:specs|proofs))?\.(specs|proofs)\.(?!declared\.)(\S+)', module)
-    path = m and ROOT / 'crates' / m[1] / m[2] / (m[3].replace('.', '/') + '.antt')
+    path = m and root / 'crates' / m[1] / m[2] / (m[3].replace('.', '/') + '.antt')
     return path if path and path.is_file() else None
 
 @functools.cache
@@ -140,10 +145,10 @@ def skip(text, at, pair='{}'):
     return at
 
 @functools.cache
-def source_types(crate):
+def source_types(crate, root=ROOT):
     """The structs and enums that a crate's sources declare: the file, the text, and by the file's `use` lines the crates that names come from."""
     found = {}
-    for path in sorted((ROOT / 'crates' / crate / 'src').glob('**/*.rt')):
+    for path in sorted((root / 'crates' / crate / 'src').glob('**/*.rt')):
         text = code(path.read_text())
         for m in re.finditer(r'^(?:pub )?(?:struct|enum) (\w+)[^;{(]*([;{(])', text, re.M):
             end = m.end() if m[2] == ';' else skip(text, m.end() - 1, '{}' if m[2] == '{' else '()')
@@ -181,11 +186,11 @@ def public_modules(crate):
 
 class Function:
     """A function of a source: its crate, module and type, what it takes and answers by name, its body, whether others start there (a
-    program's `main`, or what is exported for C), whether it is public, its file and its clauses there, and what docs/PROMISES.md writes before
-    its name: its type, or its module if that is public."""
-    def __init__(self, crate, module, owner, name, takes, answers, body, first=False, public=False, path=None, clauses=(), above=''):
+    program's `main`, or what is exported for C), whether it is public, its file and its clauses there, what docs/PROMISES.md writes before its
+    name (its type, or its module if that is public), and all that stands before its body."""
+    def __init__(self, crate, module, owner, name, takes, answers, body, first=False, public=False, path=None, clauses=(), above='', contract=''):
         self.crate, self.module, self.owner, self.name, self.takes, self.answers, self.body = crate, module, owner, name, takes, answers, body
-        self.first, self.public, self.path, self.clauses, self.above = first, public, path, clauses, owner or above
+        self.first, self.public, self.path, self.clauses, self.above, self.contract = first, public, path, clauses, owner or above, contract
     said = property(lambda self: self.above + '::' * bool(self.above) + self.name)
 
 def inner(kind):
@@ -234,7 +239,8 @@ class Sources:
                 at = text.find('{', at)
                 first, public = owner + m[1] == 'main' or text.endswith('extern "C" ', 0, m.start()), text.endswith(('pub ', 'pub extern "C" '), 0, m.start())
                 answer = inner(answers[1]) if answers else ''
-                self.functions.append(Function(crate, module, owner, m[1], takes, answer, text[at:skip(text, at)], first, public, path, clauses, above))
+                self.functions.append(Function(crate, module, owner, m[1], takes, answer, text[at:skip(text, at)], first, public, path, clauses, above,
+                                               text[m.start():at]))
         self.calls = {}
 
     def named(self, crate, module, path):
