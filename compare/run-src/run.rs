@@ -152,12 +152,28 @@ fn seeds(text: &str) -> Option<Vec<u64>> {
     (!list.is_empty()).then_some(list)
 }
 
-/// a difference in full, each request with its two answers
-fn kept(all: &[(&[u8], &[u8], &[u8])]) {
+/// a request with its two answers
+type Told<'a> = (&'a [u8], &'a [u8], &'a [u8]);
+
+/// a difference in full
+fn kept(all: &[Told]) {
     let Ok(file) = std::env::var("COMPARE_DIFFERENCE") else { return };
     let bytes: Vec<u8> = all.iter().flat_map(|(q, a, b)| [q, &b"\n"[..], a, b"\n", b, b"\n\n"].concat()).collect();
     if std::fs::write(&file, bytes).is_ok() {
         println!("in full in {file}");
+    }
+}
+
+/// how many, and the smallest request
+#[derive(Clone, Default)]
+struct Seen(u64, Vec<u8>);
+
+impl Seen {
+    fn note(&mut self, request: &[u8]) {
+        self.0 += 1;
+        if self.1.is_empty() || size(request) < size(&self.1) {
+            self.1 = request.to_vec();
+        }
     }
 }
 
@@ -178,9 +194,9 @@ struct Run {
     raw: Option<Answerer>,
     amendments: Answerer,
     kinds: Tally,
-    /// by entry, the length of its name first, which is their order: how many, and the shortest request
-    amended: BTreeMap<(usize, String), (u64, Vec<u8>)>,
-    ruled: Vec<(u64, Vec<u8>)>,
+    /// by entry, the length of its name first, which is their order
+    amended: BTreeMap<(usize, String), Seen>,
+    ruled: Vec<Seen>,
     start: Instant,
     done: u64,
 }
@@ -217,17 +233,7 @@ impl Run {
         });
         println!("\na difference, within {done} requests, {seconds:.2} s");
         let (l, r) = self.asked(&small);
-        for (head, q, l, r) in [("", request, left, right), ("smaller\n", &small, &l, &r)] {
-            if head.is_empty() || small != request {
-                println!("{head}  request {}\n  left    {}\n  right   {}", brief(q), brief(l), brief(r));
-                let said = self.amendments.ask(&[q, b"\n", l].concat());
-                if !said.is_empty() {
-                    println!("  wanted  {}", brief(&said));
-                }
-            }
-        }
-        kept(&[(request, left, right), (&small, &l, &r)]);
-        exit(1)
+        self.end(["left", "right"], (request, left, right), (&small, &l, &r))
     }
 
     fn unruled(&mut self, request: &[u8], left: &[u8], raw: &[u8]) -> ! {
@@ -236,12 +242,21 @@ impl Run {
             word(&l) != b"bad" && l != r && Pair::new(c, &l, &r).rule().is_none()
         });
         println!("\nraw and oracle differ, and no entry of docs/DIFFERENCES.md takes it");
-        println!("  request {}\n  oracle  {}\n  raw     {}", brief(request), brief(left), brief(raw));
         let (l, r) = self.asked_raw(&small);
-        if small != request {
-            println!("smaller\n  request {}\n  oracle  {}\n  raw     {}", brief(&small), brief(&l), brief(&r));
+        self.end(["oracle", "raw"], (request, left, raw), (&small, &l, &r))
+    }
+
+    fn end(&mut self, [one, other]: [&str; 2], found: Told, small: Told) -> ! {
+        for (head, (q, a, b)) in [("", found), ("smaller\n", small)] {
+            if head.is_empty() || small.0 != found.0 {
+                println!("{head}  request {}\n  {one:7} {}\n  {other:7} {}", brief(q), brief(a), brief(b));
+                let said = self.amendments.ask(&[q, b"\n", a].concat());
+                if !said.is_empty() {
+                    println!("  wanted  {}", brief(&said));
+                }
+            }
         }
-        kept(&[(request, left, raw), (&small, &l, &r)]);
+        kept(&[found, small]);
         exit(1)
     }
 
@@ -269,7 +284,7 @@ fn main() {
         amendments: Answerer::start("amendments.py", &format!("exec '{here}/amendments.py' \"$COMPARE_LEFT\"")),
         kinds: BTreeMap::new(),
         amended: BTreeMap::new(),
-        ruled: vec![(0, Vec::new()); RULES.len()],
+        ruled: vec![Seen::default(); RULES.len()],
         start: Instant::now(),
         done: 0,
     };
@@ -362,13 +377,7 @@ fn main() {
             a.answer(request, &mut w);
             if l != w && !(word(&l) == b"bad" && word(&w) == b"bad") {
                 match Pair::new(request, &l, &w).rule() {
-                    Some(i) if word(&w) != b"panic" => {
-                        let seen = &mut run.ruled[i];
-                        seen.0 += 1;
-                        if seen.1.is_empty() || size(request) < size(&seen.1) {
-                            seen.1 = request.to_vec();
-                        }
-                    }
+                    Some(i) if word(&w) != b"panic" => run.ruled[i].note(request),
                     _ => unruled.push((request.to_vec(), l.clone(), w.clone())),
                 }
             }
@@ -384,11 +393,7 @@ fn main() {
                 differing.push((request.to_vec(), left.to_vec(), right));
             } else if !entries.is_empty() {
                 for entry in String::from_utf8_lossy(entries).split('+') {
-                    let seen = run.amended.entry((entry.len(), entry.into())).or_default();
-                    seen.0 += 1;
-                    if seen.1.is_empty() || request.len() < seen.1.len() {
-                        seen.1 = request.to_vec();
-                    }
+                    run.amended.entry((entry.len(), entry.into())).or_default().note(request);
                 }
             }
         }
@@ -457,8 +462,8 @@ fn main() {
     }
     if !run.amended.is_empty() {
         println!("where the port is to answer otherwise, and does, by entry of docs/DIFFERENCES.md");
-        for ((_, entry), (n, shortest)) in &run.amended {
-            println!("  {entry:4} {n:9}  {}; the shortest: {}", what(entry).unwrap_or("(not listed there)"), brief(shortest));
+        for ((_, entry), Seen(n, request)) in &run.amended {
+            println!("  {entry:4} {n:9}  {}; as {}", what(entry).unwrap_or("(not listed there)"), brief(request));
         }
     }
     println!("{done} requests, no difference, {seconds:.1} s, {:.0} a second", done as f64 / seconds);
