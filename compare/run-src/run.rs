@@ -74,15 +74,12 @@ fn word(answer: &[u8]) -> &[u8] {
 }
 
 fn same(request: &[u8], left: &[u8], right: &[u8]) -> bool {
-    if left == right || (word(left) == b"bad" && word(right) == b"bad") {
-        return true;
+    match (word(left), word(right)) {
+        (b"panic", _) | (_, b"panic") => false,
+        (b"bad", b"bad") => true,
+        // what is the oracle's alone
+        (a, b) => left == right || word(request) == b"backend" || word(request) == b"cachenum" && (a == b"bad" || b == b"bad"),
     }
-    // what is the oracle's alone
-    word(request) == b"backend" || word(request) == b"cachenum" && (word(right) == b"bad" || word(left) == b"bad")
-}
-
-fn panicked(answer: &[u8]) -> bool {
-    word(answer) == b"panic"
 }
 
 struct Options {
@@ -155,12 +152,28 @@ fn seeds(text: &str) -> Option<Vec<u64>> {
     (!list.is_empty()).then_some(list)
 }
 
-/// a difference in full, each request with its two answers
-fn kept(all: &[(&[u8], &[u8], &[u8])]) {
+/// a request with its two answers
+type Told<'a> = (&'a [u8], &'a [u8], &'a [u8]);
+
+/// a difference in full
+fn kept(all: &[Told]) {
     let Ok(file) = std::env::var("COMPARE_DIFFERENCE") else { return };
     let bytes: Vec<u8> = all.iter().flat_map(|(q, a, b)| [q, &b"\n"[..], a, b"\n", b, b"\n\n"].concat()).collect();
     if std::fs::write(&file, bytes).is_ok() {
         println!("in full in {file}");
+    }
+}
+
+/// how many, and the smallest request
+#[derive(Clone, Default)]
+struct Seen(u64, Vec<u8>);
+
+impl Seen {
+    fn note(&mut self, request: &[u8]) {
+        self.0 += 1;
+        if self.1.is_empty() || size(request) < size(&self.1) {
+            self.1 = request.to_vec();
+        }
     }
 }
 
@@ -179,27 +192,35 @@ struct Run {
     left: Answerer,
     right: Answerer,
     raw: Option<Answerer>,
+    amendments: Answerer,
     kinds: Tally,
-    sevens: (u64, Vec<u8>),
-    ruled: Vec<(u64, Vec<u8>)>,
+    /// by entry, the length of its name first, which is their order
+    amended: BTreeMap<(usize, String), Seen>,
+    ruled: Vec<Seen>,
     start: Instant,
     done: u64,
 }
 
+/// what compare/amendments.py says of a pair: the entries that amend it, and the answer that is wanted
+fn wanted<'a>(said: &'a [u8], left: &'a [u8]) -> (&'a [u8], &'a [u8]) {
+    match said.iter().position(|c| *c == b' ') {
+        Some(k) => (&said[..k], &said[k + 1..]),
+        None => (b"", left),
+    }
+}
+
 impl Run {
-    /// whether left and right differ other than by D7
     fn differ(&mut self, request: &[u8], left: &[u8], right: &[u8]) -> bool {
-        if same(request, left, right) {
-            return false;
-        }
-        match rules::cleared(request) {
-            Some(other) => self.left.ask(&other) != right,
-            None => true,
-        }
+        let said = self.amendments.ask(&[request, b"\n", left].concat());
+        !same(request, wanted(&said, left).1, right)
     }
 
     fn asked(&mut self, request: &[u8]) -> (Vec<u8>, Vec<u8>) {
         (self.left.ask(request), self.right.ask(request))
+    }
+
+    fn asked_raw(&mut self, request: &[u8]) -> (Vec<u8>, Vec<u8>) {
+        (self.left.ask(request), self.raw.as_mut().unwrap().ask(&[b"raw ", request].concat()))
     }
 
     fn found(&mut self, request: &[u8], left: &[u8], right: &[u8]) -> ! {
@@ -208,34 +229,34 @@ impl Run {
         let small = shrink::smallest(request, &mut |c| {
             let (l, r) = self.asked(c);
             let malformed = word(&l) == b"bad" || word(&r) == b"bad";
-            (bad || !malformed) && (self.differ(c, &l, &r) || panicked(&l) || panicked(&r))
+            (bad || !malformed) && self.differ(c, &l, &r)
         });
-        println!(
-            "\na difference, within {done} requests, {seconds:.2} s\n  request {}\n  left    {}\n  right   {}",
-            brief(request),
-            brief(left),
-            brief(right)
-        );
+        println!("\na difference, within {done} requests, {seconds:.2} s");
         let (l, r) = self.asked(&small);
-        if small != request {
-            println!("smaller\n  request {}\n  left    {}\n  right   {}", brief(&small), brief(&l), brief(&r));
-        }
-        kept(&[(request, left, right), (&small, &l, &r)]);
-        exit(1)
+        self.end(["left", "right"], (request, left, right), (&small, &l, &r))
     }
 
     fn unruled(&mut self, request: &[u8], left: &[u8], raw: &[u8]) -> ! {
         let small = shrink::smallest(request, &mut |c| {
-            let (l, r) = (self.left.ask(c), self.raw.as_mut().unwrap().ask(&[b"raw ", c].concat()));
+            let (l, r) = self.asked_raw(c);
             word(&l) != b"bad" && l != r && Pair::new(c, &l, &r).rule().is_none()
         });
         println!("\nraw and oracle differ, and no entry of docs/DIFFERENCES.md takes it");
-        println!("  request {}\n  oracle  {}\n  raw     {}", brief(request), brief(left), brief(raw));
-        let (l, r) = (self.left.ask(&small), self.raw.as_mut().unwrap().ask(&[b"raw ", &small[..]].concat()));
-        if small != request {
-            println!("smaller\n  request {}\n  oracle  {}\n  raw     {}", brief(&small), brief(&l), brief(&r));
+        let (l, r) = self.asked_raw(&small);
+        self.end(["oracle", "raw"], (request, left, raw), (&small, &l, &r))
+    }
+
+    fn end(&mut self, [one, other]: [&str; 2], found: Told, small: Told) -> ! {
+        for (head, (q, a, b)) in [("", found), ("smaller\n", small)] {
+            if head.is_empty() || small.0 != found.0 {
+                println!("{head}  request {}\n  {one:7} {}\n  {other:7} {}", brief(q), brief(a), brief(b));
+                let said = self.amendments.ask(&[q, b"\n", a].concat());
+                if !said.is_empty() {
+                    println!("  wanted  {}", brief(&said));
+                }
+            }
         }
-        kept(&[(request, left, raw), (&small, &l, &r)]);
+        kept(&[found, small]);
         exit(1)
     }
 
@@ -243,7 +264,7 @@ impl Run {
     fn smallest(&mut self, rule: usize) -> Vec<u8> {
         let from = self.ruled[rule].1.clone();
         shrink::smallest(&from, &mut |c| {
-            let (l, r) = (self.left.ask(c), self.raw.as_mut().unwrap().ask(&[b"raw ", c].concat()));
+            let (l, r) = self.asked_raw(c);
             l != r && Pair::new(c, &l, &r).rule() == Some(rule)
         })
     }
@@ -253,16 +274,24 @@ fn main() {
     let o = options();
     let here = std::env::var("COMPARE").unwrap_or_else(|_| "compare".into());
     let listed = std::fs::read_to_string(format!("{here}/../docs/DIFFERENCES.md")).unwrap_or_default();
+    // the entry's second column
+    let what = |entry: &str| listed.split(&format!("| {entry} | ")).nth(1).and_then(|row| row.split(" |").next());
+    std::env::set_var("COMPARE_LEFT", &o.left);
     let mut run = Run {
         left: Answerer::start("left", &o.left),
         right: Answerer::start("right", &o.right),
         raw: if o.no_raw { None } else { Some(Answerer::start("raw", o.raw.as_ref().unwrap_or(&o.left))) },
+        amendments: Answerer::start("amendments.py", &format!("exec '{here}/amendments.py' \"$COMPARE_LEFT\"")),
         kinds: BTreeMap::new(),
-        sevens: (0, Vec::new()),
-        ruled: vec![(0, Vec::new()); RULES.len()],
+        amended: BTreeMap::new(),
+        ruled: vec![Seen::default(); RULES.len()],
         start: Instant::now(),
         done: 0,
     };
+    // its first line
+    let mut kinds = Vec::new();
+    run.amendments.answer(b"which kinds", &mut kinds);
+    let amended: Vec<&[u8]> = kinds.split(|c| *c == b' ').collect();
     let mut maker = maker::Maker::new(o.seeds[0]);
     let all = o.count * o.seeds.len() as u64;
     let mut file = o.file.as_ref().map(|f| {
@@ -329,40 +358,48 @@ fn main() {
         if last.is_empty() {
             break;
         }
-        // a difference takes questions of its own: they come behind those that are on their way
-        let mut differing: Vec<(Vec<u8>, Vec<u8>, Vec<u8>, Option<Vec<u8>>)> = Vec::new();
+        let (mut pairs, mut rights) = (Vec::new(), Vec::new());
+        let (mut differing, mut unruled) = (Vec::new(), Vec::new());
         for request in last[..last.len() - 1].split(|c| *c == b'\n') {
             run.left.answer(request, &mut l);
             run.right.answer(request, &mut r);
             *run.kinds.entry(kind_of(request)).or_default().entry(tallied(&l)).or_default() += 1;
             run.done += 1;
-            let odd = !same(request, &l, &r) || panicked(&l) || panicked(&r);
-            let mut unlike = false;
-            if let Some(a) = &mut run.raw {
-                a.answer(request, &mut w);
-                if l != w && !(word(&l) == b"bad" && word(&w) == b"bad") {
-                    match Pair::new(request, &l, &w).rule() {
-                        Some(i) => {
-                            let seen = &mut run.ruled[i];
-                            seen.0 += 1;
-                            if seen.1.is_empty() || size(request) < size(&seen.1) {
-                                seen.1 = request.to_vec();
-                            }
-                        }
-                        None => unlike = true,
-                    }
-                    unlike |= panicked(&w);
+            if amended.contains(&word(request)) {
+                for part in [request, b"\n", &l, b"\n"] {
+                    pairs.extend_from_slice(part);
+                }
+                rights.push(r.clone());
+            } else if !same(request, &l, &r) {
+                differing.push((request.to_vec(), l.clone(), r.clone()));
+            }
+            let Some(a) = &mut run.raw else { continue };
+            a.answer(request, &mut w);
+            if l != w && !(word(&l) == b"bad" && word(&w) == b"bad") {
+                match Pair::new(request, &l, &w).rule() {
+                    Some(i) if word(&w) != b"panic" => run.ruled[i].note(request),
+                    _ => unruled.push((request.to_vec(), l.clone(), w.clone())),
                 }
             }
-            if (odd || unlike) && differing.len() < 1000 {
-                differing.push((request.to_vec(), l.clone(), r.clone(), unlike.then(|| w.clone())));
+        }
+        let pairs = Arc::new(pairs);
+        run.amendments.send(&pairs);
+        let mut lines = pairs.split(|c| *c == b'\n');
+        for right in rights {
+            let (request, left) = (lines.next().unwrap(), lines.next().unwrap());
+            run.amendments.answer(request, &mut w);
+            let (entries, wanted) = wanted(&w, left);
+            if !same(request, wanted, &right) {
+                differing.push((request.to_vec(), left.to_vec(), right));
+            } else if !entries.is_empty() {
+                for entry in String::from_utf8_lossy(entries).split('+') {
+                    run.amended.entry((entry.len(), entry.into())).or_default().note(request);
+                }
             }
         }
-        if !differing.is_empty() {
-            // take up the answers that are still to come, then ask
-            let ahead = waiting.take().unwrap();
-            let count = ahead.iter().filter(|c| **c == b'\n').count();
-            for request in ahead.split(|c| *c == b'\n').take(count) {
+        if !(differing.is_empty() && unruled.is_empty()) {
+            // it takes questions of its own: they come behind those that are on their way, whose answers are taken up first
+            for request in waiting.iter().flat_map(|lines| lines.split_inclusive(|c| *c == b'\n')) {
                 run.left.answer(request, &mut l);
                 run.right.answer(request, &mut r);
                 if let Some(a) = &mut run.raw {
@@ -370,30 +407,12 @@ fn main() {
                 }
             }
             // of several at a time the smallest
-            differing.sort_by_key(|d| size(&d.0));
-            for (request, l, r, unlike) in differing {
-                if panicked(&l) || panicked(&r) || run.differ(&request, &l, &r) {
-                    run.found(&request, &l, &r);
-                }
-                if let Some(raw) = unlike {
-                    run.unruled(&request, &l, &raw);
-                }
-                run.sevens.0 += 1;
-                if run.sevens.1.is_empty() || request.len() < run.sevens.1.len() {
-                    run.sevens.1 = request;
-                }
+            if let Some((request, left, right)) = differing.iter().min_by_key(|d| size(&d.0)) {
+                run.found(request, left, right);
             }
-            // those that were taken up are asked again: answers depend on nothing but their request
-            if count > 0 {
-                run.left.send(&ahead);
-                run.right.send(&ahead);
-                if let Some(a) = &run.raw {
-                    let raws: Vec<u8> =
-                        ahead[..ahead.len() - 1].split(|c| *c == b'\n').flat_map(|q| [b"raw ", q, b"\n"].concat()).collect();
-                    a.send(&Arc::new(raws));
-                }
+            if let Some((request, left, raw)) = unruled.iter().min_by_key(|d| size(&d.0)) {
+                run.unruled(request, left, raw);
             }
-            waiting = Some(ahead);
         }
         if tty && told.elapsed() > Duration::from_millis(300) {
             told = Instant::now();
@@ -432,24 +451,23 @@ fn main() {
         println!("where the oracle is not the plain Rust, by entry of docs/DIFFERENCES.md");
         for i in 0..RULES.len() {
             let rule = &RULES[i];
-            let lost = if listed.contains(&format!("| {} |", rule.entry)) { "" } else { " (not listed there)" };
+            let lost = if what(rule.entry).is_none() { " (not listed there)" } else { "" };
             println!("  {:4} {:9}  {}{lost}", rule.entry, run.ruled[i].0, rule.what);
             if o.smallest && run.ruled[i].0 > 0 {
                 let small = run.smallest(i);
-                let (a, b) = (run.left.ask(&small), run.raw.as_mut().unwrap().ask(&[b"raw ", &small[..]].concat()));
+                let (a, b) = run.asked_raw(&small);
                 println!("         {}\n         oracle {}\n         raw    {}", brief(&small), brief(&a), brief(&b));
             }
         }
     }
-    if run.sevens.0 > 0 {
-        println!(
-            "where right is not left\n  D7   {:9}  ignored bits of an event's item of tag 0; the shortest: {}",
-            run.sevens.0,
-            brief(&run.sevens.1)
-        );
+    if !run.amended.is_empty() {
+        println!("where the port is to answer otherwise, and does, by entry of docs/DIFFERENCES.md");
+        for ((_, entry), Seen(n, request)) in &run.amended {
+            println!("  {entry:4} {n:9}  {}; as {}", what(entry).unwrap_or("(not listed there)"), brief(request));
+        }
     }
     println!("{done} requests, no difference, {seconds:.1} s, {:.0} a second", done as f64 / seconds);
-    for mut a in [Some(run.left), Some(run.right), run.raw].into_iter().flatten() {
+    for mut a in [Some(run.left), Some(run.right), Some(run.amendments), run.raw].into_iter().flatten() {
         drop(a.lines);
         let _ = a.child.wait();
     }
