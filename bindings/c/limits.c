@@ -1691,8 +1691,59 @@ static void dumps(void) {
     free(b);
 }
 
+/* ---- the texts of refusals */
+
+/* from include/mesh.table: refusals */
+static const uint8_t REFUSALS[] = {
+    MESH_FRAME_EMPTY,
+    MESH_FRAME_SHORT,
+    MESH_NOT_MESH,
+    MESH_BODY_SHORT,
+    MESH_FRAME_LONG,
+    MESH_HOPS_NONE,
+    MESH_HOPS_MANY,
+    MESH_UPLINK_ID_LARGE,
+    MESH_DR_LARGE,
+    MESH_RSSI_LARGE,
+    MESH_RSSI_SMALL,
+    MESH_SNR_SMALL,
+    MESH_SNR_LARGE,
+    MESH_DELAY_NONE,
+    MESH_TX_POWER_LARGE,
+    MESH_DELAY_LARGE,
+    MESH_FREQUENCY_LARGE,
+    MESH_FREQUENCY_STEP,
+    MESH_ITEM_LONG,
+    MESH_HEARTBEAT_LENGTH,
+    MESH_OUTPUT_SHORT,
+    MESH_OPEN_MANY,
+    MESH_OPEN_ONE,
+    MESH_CACHE_SIZE,
+    MESH_KEY_LENGTH,
+    MESH_KEY_DIGIT,
+    MESH_MIC_MISSING,
+    MESH_FREQUENCY_LENGTH,
+    MESH_TYPE_LARGE,
+    MESH_LINE_DIGITS,
+    MESH_OUTSIDE,
+};
+/* end */
+
+/* Each has a text that no other has, and any other number has none. */
+static void texts(void) {
+    unsigned said = 0;
+    for (unsigned n = 0; n < 256; n++) said += mesh_refusal_text((uint8_t)n)[0] != 0;
+    CHECK(said == COUNT(REFUSALS));
+    for (size_t i = 0; i < COUNT(REFUSALS); i++) {
+        CHECK(mesh_refusal_text(REFUSALS[i])[0] != 0);
+        for (size_t k = 0; k < i; k++) CHECK(strcmp(mesh_refusal_text(REFUSALS[k]), mesh_refusal_text(REFUSALS[i])) != 0);
+    }
+    CHECK(strcmp(mesh_refusal_text(1), "the frame has no bytes") == 0 && mesh_refusal_text(0)[0] == 0 && mesh_refusal_text(MESH_ALREADY_OPEN)[0] == 0);
+}
+
 int main(void) {
     if (mesh_version() != MESH_VERSION) return 1;
+    texts();
     reading();
     writing();
     composing();
