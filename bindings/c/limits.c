@@ -973,6 +973,54 @@ static void items(void) {
     CHECK(do_count(false, p11, sizeof p11) == 0 && counted(3, 0, 13, 0, 3, 0));
 }
 
+static uint8_t do_item_write(bool is_event, uint8_t kind, uint8_t tag, const uint8_t *b, size_t n, size_t out_len) {
+    uint8_t *from = copy(b, n), *out = room(out_len);
+    uint64_t *length = room(sizeof *length);
+    uint8_t r = mesh_item_write(is_event, kind, tag, from, n, out, out_len, length);
+    wrote(r, out, out_len, length);
+    back(from, b, n);
+    return r;
+}
+
+static bool wrote_bytes(const void *b, size_t n) { return written_length == n && memcmp(written, b, n) == 0; }
+
+static void items_alone(void) {
+    uint8_t *b = bytes(0xff, 300);
+    for (unsigned kind = 0; kind < 256; kind++) {
+        const bool value_kind = kind == MESH_ITEM_PROPRIETARY, none = !value_kind && kind != MESH_ITEM_HEARTBEAT;
+        CHECK(do_item_write(true, (uint8_t)kind, 1, b, 300, 0) == (none ? 29 : 19));
+        CHECK(do_item_write(false, (uint8_t)kind, 1, b, 300, 0) == (value_kind ? 19 : 29));
+    }
+    for (int is_event = 0; is_event < 2; is_event++) {
+        const uint8_t any = MESH_ITEM_PROPRIETARY;
+        CHECK(do_item_write(is_event, any, 9, b, 255, 256) == 21 && do_item_write(is_event, any, 9, b, 255, 300) == 0);
+        CHECK(written_length == 257 && written[0] == 9 && written[1] == 255 && memcmp(written + 2, b, 255) == 0);
+        CHECK(do_item_write(is_event, any, 9, b, 256, 300) == 19 && do_item_write(is_event, any, 9, NULL, 0, 1) == 21);
+        CHECK(do_item_write(is_event, any, 9, NULL, 0, 2) == 0 && wrote_bytes("\11\0", 2));
+        CHECK(do_item_write(is_event, any, 0, b, 5, 9) == (is_event ? 20 : 0) && do_item_write(is_event, any, 0, b, 256, 0) == 19);
+    }
+    /* A heartbeat has tag 0, and its ignored bits are cleared; in a command the same bytes are a value. */
+    static const uint8_t six[] = {1, 2, 3, 4, 5, 0xff};
+    CHECK(do_item_write(true, MESH_ITEM_HEARTBEAT, 9, six, 6, 8) == 0 && wrote_bytes("\0\6\1\2\3\4\5\77", 8));
+    CHECK(do_item_write(true, MESH_ITEM_PROPRIETARY, 0, six, 6, 8) == 0 && wrote_bytes("\0\6\1\2\3\4\5\77", 8));
+    CHECK(do_item_write(false, MESH_ITEM_PROPRIETARY, 0, six, 6, 8) == 0 && wrote_bytes("\0\6\1\2\3\4\5\377", 8));
+    CHECK(do_item_write(true, MESH_ITEM_HEARTBEAT, 9, b, 253, 300) == 20 && do_item_write(true, MESH_ITEM_HEARTBEAT, 9, b, 252, 253) == 21);
+    CHECK(do_item_write(true, MESH_ITEM_HEARTBEAT, 9, NULL, 0, 2) == 0 && wrote_bytes("\0\0", 2));
+    /* What a walk stands at: a kept item as it stood, but for those bits; a skipped one and a cut tail are refused. */
+    static const uint8_t many[] = {7, 2, 0xaa, 0xbb, 0, 6, 1, 2, 3, 4, 5, 0xff, 0, 5, 1, 2, 3, 4, 5, 3, 9, 0xcc};
+    static const uint8_t number[] = {0, 0, 20, 29};
+    uint8_t out[99];
+    uint64_t length = 0;
+    mesh_items it = mesh_items_begin(true, many, sizeof many);
+    CHECK(mesh_items_write(&it, out, sizeof out, &length) == 29);
+    for (size_t i = 0; i < COUNT(number); i++) {
+        CHECK(mesh_items_next(&it) && mesh_items_write(&it, out, sizeof out, &length) == number[i]);
+        if (i == 0) CHECK(length == 4 && memcmp(out, many, 4) == 0 && mesh_items_write(&it, NULL, 4, &length) == 45 && mesh_items_write(&it, NULL, 0, &length) == 21);
+        if (i == 1) CHECK(length == 8 && memcmp(out, many + 4, 7) == 0 && out[7] == 0x3f);
+    }
+    free(b);
+}
+
 /* The loops as mesh.h's comments have them (tools/bindings looks). */
 
 static void walked(bool is_event, const uint8_t *payload, size_t n) {
@@ -1691,8 +1739,103 @@ static void dumps(void) {
     free(b);
 }
 
+static uint8_t do_text(const mesh_packet *p, size_t out_len) {
+    uint8_t *out = room(out_len);
+    uint64_t *length = room(sizeof *length), *numbers = numbers_of(p);
+    uint8_t r = mesh_text(numbers, out, out_len, length);
+    wrote(r, out, out_len, length);
+    left(numbers, p);
+    return r;
+}
+
+static void texts_of_packets(void) {
+    static const char *const shown[][2] = {
+        {"[Uplink hop_count: 1, uplink_id: 291, relay_id: 0a0b0c0d, mic: 01020304]", "[Uplink hop_count: 1, uplink_id: 291, relay_id: 0a0b0c0d, mic: ]"},
+        {"[Downlink hop_count: 1, uplink_id: 291, relay_id: 0a0b0c0d, mic: 01020304]", "[Downlink hop_count: 1, uplink_id: 291, relay_id: 0a0b0c0d, mic: ]"},
+        {"[Event hop_count: 1, timestamp: 60, relay_id: 0a0b0c0d]", "[Event hop_count: 1, timestamp: 60, relay_id: 0a0b0c0d]"},
+        {"[Command hop_count: 1, timestamp: 60, relay_id: 0a0b0c0d]", "[Command hop_count: 1, timestamp: 60, relay_id: 0a0b0c0d]"},
+    };
+    for (uint8_t kind = MESH_UPLINK; kind <= MESH_COMMAND; kind++)
+        for (unsigned bare = 0; bare < 2; bare++) {
+            mesh_packet p = at(kind, kind < MESH_EVENT ? 0 : MESH_ITEMS, UINT64_MAX, UINT64_MAX);
+            p.has_mic = !bare;
+            const size_t most = strlen(shown[kind][bare]);
+            for (size_t out_len = 0; out_len < most; out_len++) CHECK(do_text(&p, out_len) == 21);
+            CHECK(do_text(&p, most) == 0 && text(shown[kind][bare]) && do_text(&p, 99) == 0 && text(shown[kind][bare]));
+            uint8_t out[MESH_TEXT_MOST];
+            uint64_t length = 0;
+            CHECK(mesh_packet_text(&p, out, sizeof out, &length) == 0 && length == most && memcmp(out, shown[kind][bare], most) == 0);
+            CHECK(mesh_packet_text(&p, NULL, 9, &length) == 45 && mesh_packet_text(&p, NULL, 0, &length) == 21 && length == most);
+            /* A hop count is a byte, and more counts as its largest; the fields are shown as they are. */
+            p.hop_count = UINT64_MAX;
+            CHECK(do_text(&p, 99) == 0 && written_length == most + 2);
+            p.payload_type = 4;
+            CHECK(do_text(&p, 0) == 29);
+            p.payload_type = 0;
+            p.relay_id = 1ull << 32;
+            CHECK(do_text(&p, 0) == 29);
+        }
+    mesh_packet p = good(MESH_LORA);
+    CHECK(do_text(&p, 99) == 29);
+    /* The label goes by the header, the fields by the payload. */
+    p = good(MESH_DOWNLINK);
+    p.payload_type = MESH_COMMAND;
+    CHECK(do_text(&p, 99) == 0 && text("[Command hop_count: 1, uplink_id: 291, relay_id: 0a0b0c0d, mic: 01020304]"));
+}
+
+/* ---- the texts of refusals */
+
+/* from include/mesh.table: refusals */
+static const uint8_t REFUSALS[] = {
+    MESH_FRAME_EMPTY,
+    MESH_FRAME_SHORT,
+    MESH_NOT_MESH,
+    MESH_BODY_SHORT,
+    MESH_FRAME_LONG,
+    MESH_HOPS_NONE,
+    MESH_HOPS_MANY,
+    MESH_UPLINK_ID_LARGE,
+    MESH_DR_LARGE,
+    MESH_RSSI_LARGE,
+    MESH_RSSI_SMALL,
+    MESH_SNR_SMALL,
+    MESH_SNR_LARGE,
+    MESH_DELAY_NONE,
+    MESH_TX_POWER_LARGE,
+    MESH_DELAY_LARGE,
+    MESH_FREQUENCY_LARGE,
+    MESH_FREQUENCY_STEP,
+    MESH_ITEM_LONG,
+    MESH_HEARTBEAT_LENGTH,
+    MESH_OUTPUT_SHORT,
+    MESH_OPEN_MANY,
+    MESH_OPEN_ONE,
+    MESH_CACHE_SIZE,
+    MESH_KEY_LENGTH,
+    MESH_KEY_DIGIT,
+    MESH_MIC_MISSING,
+    MESH_FREQUENCY_LENGTH,
+    MESH_TYPE_LARGE,
+    MESH_LINE_DIGITS,
+    MESH_OUTSIDE,
+};
+/* end */
+
+/* Each has a text that no other has, and any other number has none. */
+static void texts(void) {
+    unsigned said = 0;
+    for (unsigned n = 0; n < 256; n++) said += mesh_refusal_text((uint8_t)n)[0] != 0;
+    CHECK(said == COUNT(REFUSALS));
+    for (size_t i = 0; i < COUNT(REFUSALS); i++) {
+        CHECK(mesh_refusal_text(REFUSALS[i])[0] != 0);
+        for (size_t k = 0; k < i; k++) CHECK(strcmp(mesh_refusal_text(REFUSALS[k]), mesh_refusal_text(REFUSALS[i])) != 0);
+    }
+    CHECK(strcmp(mesh_refusal_text(1), "the frame has no bytes") == 0 && mesh_refusal_text(0)[0] == 0 && mesh_refusal_text(MESH_ALREADY_OPEN)[0] == 0);
+}
+
 int main(void) {
     if (mesh_version() != MESH_VERSION) return 1;
+    texts();
     reading();
     writing();
     composing();
@@ -1704,6 +1847,7 @@ int main(void) {
     validated();
     sealing();
     items();
+    items_alone();
     walks();
     stream();
     heartbeats();
@@ -1716,6 +1860,7 @@ int main(void) {
     cipher();
     caches();
     dumps();
+    texts_of_packets();
     printf("%lu checks passed\n", checks);
     return 0;
 }

@@ -207,6 +207,44 @@ pub enum Command {
     Proprietary(u8, Vec<u8>),
 }
 
+impl Item {
+    /// Writes it alone at the front of a lent slice, as it stands in a payload: tag, length and value. The answer is how many bytes. A bad
+    /// entry comes first, then [`Refusal::ItemLong`], [`Refusal::HeartbeatLength`], [`Refusal::OutputShort`].
+    pub fn write(&self, out: &mut [u8]) -> Result<usize, Refusal> {
+        match self {
+            Item::Heartbeat(path) => raw::item_write(true, MESH_ITEM_HEARTBEAT, 0, &heartbeat_to_vec(path)?, out),
+            Item::Proprietary(tag, value) => raw::item_write(true, MESH_ITEM_PROPRIETARY, *tag, value, out),
+        }
+    }
+
+    /// What [`Item::write`] writes, allocated.
+    pub fn encode(&self) -> Result<Vec<u8>, Refusal> {
+        encoded(|out| self.write(out))
+    }
+}
+
+impl Command {
+    /// Writes it alone at the front of a lent slice, as [`Item::write`]; [`Refusal::ItemLong`], [`Refusal::OutputShort`].
+    pub fn write(&self, out: &mut [u8]) -> Result<usize, Refusal> {
+        match self {
+            Command::Proprietary(tag, value) => raw::item_write(false, MESH_ITEM_PROPRIETARY, *tag, value, out),
+        }
+    }
+
+    /// What [`Command::write`] writes, allocated.
+    pub fn encode(&self) -> Result<Vec<u8>, Refusal> {
+        encoded(|out| self.write(out))
+    }
+}
+
+fn encoded(write: impl FnOnce(&mut [u8]) -> Result<usize, Refusal>) -> Result<Vec<u8>, Refusal> {
+    // Tag, length and the longest value.
+    let mut out = vec![0; 2 + crate::ITEM_MOST];
+    let length = write(&mut out)?;
+    out.truncate(length);
+    Ok(out)
+}
+
 /// The lists that composed items are lent in.
 #[derive(Default)]
 pub(crate) struct Lists {

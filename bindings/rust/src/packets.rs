@@ -1,4 +1,6 @@
 //! Packets.
+use std::fmt;
+
 use crate::cache::Record;
 use crate::fields::{DownlinkMetadata, Header, PayloadType, RelayId, UplinkMetadata};
 use crate::items::{Command, Composed, Item, Items, Lists, Opening};
@@ -7,7 +9,7 @@ use crate::raw;
 use crate::raw::{PacketNumbers, Place};
 use crate::sys::{MESH_EMPTY, MESH_ITEMS, MESH_LORA, MESH_OPEN_IN_FRAME, MESH_OPEN_IN_WORK, MESH_SEALED};
 use crate::Refusal;
-use crate::{part, FRAME_MOST};
+use crate::{part, FRAME_MOST, TEXT_MOST};
 
 /// Any frame.
 #[derive(Clone, Debug, PartialEq, Eq)]
@@ -527,6 +529,12 @@ impl<'a> MeshPacket<'a> {
         }
     }
 
+    /// Writes its text, as `Display` has it, at the front of a lent slice; the answer is how many bytes. [`TEXT_MOST`](crate::TEXT_MOST) take
+    /// any; [`Refusal::OutputShort`].
+    pub fn write_text(&self, out: &mut [u8]) -> Result<usize, Refusal> {
+        raw::text(&self.flat(), out)
+    }
+
     /// What it is known by in a [`Cache`](crate::Cache).
     pub fn record(&self) -> Result<Record, Refusal> {
         let known = raw::record(&self.flat())?;
@@ -536,6 +544,16 @@ impl<'a> MeshPacket<'a> {
             timestamp: known.timestamp,
             relay_id: known.relay_id.into(),
         })
+    }
+}
+
+/// Its line of a dump; without a MIC nothing stands behind `mic: `.
+impl fmt::Display for MeshPacket<'_> {
+    fn fmt(&self, f: &mut fmt::Formatter<'_>) -> fmt::Result {
+        let mut out = [0; TEXT_MOST];
+        // So many bytes take any text, and every packet of these types has one.
+        let length = self.write_text(&mut out).map_err(|_| fmt::Error)?;
+        f.write_str(&String::from_utf8_lossy(part(&out, 0, length as u64).map_err(|_| fmt::Error)?))
     }
 }
 

@@ -276,6 +276,12 @@ pub(crate) fn count(is_event: bool, payload: &[u8]) -> Result<Counts, Refusal> {
     Ok(Counts::of(counts))
 }
 
+pub(crate) fn item_write(is_event: bool, kind: u8, tag: u8, value: &[u8], out: &mut [u8]) -> Result<usize, Refusal> {
+    let (mut length, from, n) = (0, value.as_ptr(), value.len());
+    answer(unsafe { sys::mesh_item_write(is_event, kind, tag, from, n, out.as_mut_ptr(), out.len(), &mut length) })?;
+    Ok(length as usize)
+}
+
 pub(crate) fn stream(
     key: &[u8; 16],
     is_command: bool,
@@ -462,6 +468,12 @@ pub(crate) fn cache_add(words: &mut [u32; MESH_CACHE_WORDS], record: &RecordNumb
     let mut is_new = 0;
     answer(unsafe { sys::mesh_cache_add(words, &record.numbers(), &mut is_new) })?;
     Ok(is_new != 0)
+}
+
+pub(crate) fn text(p: &PacketNumbers, out: &mut [u8]) -> Result<usize, Refusal> {
+    let mut length = 0;
+    answer(unsafe { sys::mesh_text(&p.numbers(), out.as_mut_ptr(), out.len(), &mut length) })?;
+    Ok(length as usize)
 }
 
 pub(crate) fn dump_line(line: &[u8], out: &mut [u8]) -> Result<usize, Refusal> {

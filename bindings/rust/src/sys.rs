@@ -6,7 +6,7 @@
 #![allow(dead_code)]
 
 // from include/mesh.table: codes
-pub(crate) const MESH_VERSION: u32 = 2;
+pub(crate) const MESH_VERSION: u32 = 3;
 
 // enum mesh_size
 pub(crate) const MESH_CACHE_WORDS: usize = 195;
@@ -192,6 +192,16 @@ extern "C" {
     // Items of a clear payload.
     pub(crate) fn mesh_item(is_event: bool, payload: *const u8, n: usize, at: u64, item: *mut [u64; MESH_ITEM_NUMBERS]) -> u8;
     pub(crate) fn mesh_count(is_event: bool, payload: *const u8, n: usize, counts: *mut [u64; MESH_COUNTS_NUMBERS]) -> u8;
+    pub(crate) fn mesh_item_write(
+        is_event: bool,
+        kind: u8,
+        tag: u8,
+        value: *const u8,
+        n: usize,
+        out: *mut u8,
+        out_len: usize,
+        length: *mut u64,
+    ) -> u8;
     pub(crate) fn mesh_stream(
         key: *const [u8; 16],
         is_command: bool,
@@ -249,7 +259,8 @@ extern "C" {
     pub(crate) fn mesh_cache_clear(words: *mut [u32; MESH_CACHE_WORDS], size: u32) -> u8;
     pub(crate) fn mesh_cache_add(words: *mut [u32; MESH_CACHE_WORDS], record: *const [u64; MESH_RECORD_NUMBERS], is_new: *mut u8) -> u8;
 
-    // What mesh-dump prints.
+    // The text of a packet, and what mesh-dump prints.
+    pub(crate) fn mesh_text(numbers: *const [u64; MESH_PACKET_NUMBERS], out: *mut u8, out_len: usize, length: *mut u64) -> u8;
     pub(crate) fn mesh_dump_line(line: *const u8, n: usize, out: *mut u8, out_len: usize, length: *mut u64) -> u8;
     pub(crate) fn mesh_dump_frame(frame: *const u8, n: usize, out: *mut u8, out_len: usize, length: *mut u64) -> u8;
 }

@@ -502,6 +502,53 @@ fn hop_edit() {
 }
 
 #[test]
+fn items_alone() {
+    let path = [RelayPath { relay_id: RelayId([1, 2, 3, 4]), rssi: -255, snr: -1 }; 43];
+    let beat = Event::Heartbeat(path[..1].to_vec());
+    assert_eq!(beat.encode(), Ok(vec![0, 6, 1, 2, 3, 4, 255, 0x3f]));
+    assert_eq!(Event::Heartbeat(vec![]).encode(), Ok(vec![0, 0]));
+    assert_eq!(Event::Heartbeat(path[..42].to_vec()).encode().unwrap().len(), 254);
+    assert_eq!(Event::Heartbeat(path.to_vec()).encode(), Err(Refusal::ItemLong));
+    assert_eq!(Event::Heartbeat(vec![RelayPath { snr: 32, ..path[0] }]).encode(), Err(Refusal::SnrLarge));
+    assert_eq!(Event::Proprietary(7, vec![1, 2]).encode(), Ok(vec![7, 2, 1, 2]));
+    assert_eq!(Event::Proprietary(0, vec![1]).encode(), Err(Refusal::HeartbeatLength));
+    assert_eq!(Event::Proprietary(7, vec![1; 256]).encode(), Err(Refusal::ItemLong));
+    assert_eq!(Command::Proprietary(0, vec![1]).encode(), Ok(vec![0, 1, 1]));
+    assert_eq!(Command::Proprietary(7, vec![1; 255]).encode().unwrap().len(), 257);
+    assert_eq!(Command::Proprietary(7, vec![1; 256]).encode(), Err(Refusal::ItemLong));
+    let mut out = [BEFORE; 9];
+    assert_eq!(beat.write(&mut out[..7]), Err(Refusal::OutputShort));
+    assert_eq!(Command::Proprietary(7, vec![]).write(&mut out[..1]), Err(Refusal::OutputShort));
+    assert_eq!(out, [BEFORE; 9]);
+    assert_eq!(beat.write(&mut out), Ok(8));
+    assert_eq!(out[8], BEFORE);
+    // A payload is its items, one behind the other.
+    let items = vec![beat, Event::Proprietary(7, vec![1, 2])];
+    let each: Vec<u8> = items.iter().flat_map(|item| item.encode().unwrap()).collect();
+    let mut frame = event(Content::Items(items)).to_vec().unwrap();
+    frame.truncate(frame.len() - 4);
+    assert_eq!(frame[9..], each);
+    let Some(Found::Kept(first)) = Items::of_event(&each).unwrap().next() else { panic!() };
+    assert_eq!(first.to_item().encode().unwrap(), each[..8]);
+}
+
+#[test]
+fn texts() {
+    let text = "[Uplink hop_count: 1, uplink_id: 291, relay_id: 0a0b0c0d, mic: 11223344]";
+    let frame = hex("e012355007020a0b0c0d11223344");
+    let mut packet = MeshPacket::from_slice(&frame).unwrap();
+    assert_eq!(packet.to_string(), text);
+    packet.mic = None;
+    assert_eq!(format!("{packet}"), "[Uplink hop_count: 1, uplink_id: 291, relay_id: 0a0b0c0d, mic: ]");
+    assert_eq!(event(Content::Empty).to_string(), "[Event hop_count: 1, timestamp: 60, relay_id: 0a0b0c0d]");
+    let mut out = [BEFORE; 99];
+    assert_eq!(packet.write_text(&mut out[..63]), Err(Refusal::OutputShort));
+    assert_eq!(out, [BEFORE; 99]);
+    assert_eq!(packet.write_text(&mut out), Ok(64));
+    assert_eq!(out[64], BEFORE);
+}
+
+#[test]
 fn dumps() {
     let text = "[Uplink hop_count: 1, uplink_id: 291, relay_id: 0a0b0c0d, mic: 11223344]";
     assert_eq!(dump_line_text(b"e012355007020a0b0c0d11223344").unwrap(), text);

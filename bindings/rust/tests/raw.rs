@@ -286,6 +286,18 @@ fn item(is_event: bool, b: &[u8], at: u64) -> Result<[u64; 6], u8> {
     }
 }
 
+fn item_write(is_event: bool, kind: u8, tag: u8, b: &[u8], room: usize) -> Wrote {
+    let (mut out, mut length) = (vec![BEFORE; room], 77);
+    let number = unsafe { sys::mesh_item_write(is_event, kind, tag, b.as_ptr(), b.len(), out.as_mut_ptr(), room, &mut length) };
+    wrote(number, length, out)
+}
+
+fn text(p: &P, room: usize) -> Wrote {
+    let (mut out, mut length) = (vec![BEFORE; room], 77);
+    let number = unsafe { sys::mesh_text(&numbers(p), out.as_mut_ptr(), room, &mut length) };
+    wrote(number, length, out)
+}
+
 fn count(is_event: bool, b: &[u8]) -> Result<[u64; 6], u8> {
     let mut counts = [77; 6];
     match unsafe { sys::mesh_count(is_event, b.as_ptr(), b.len(), &mut counts) } {
@@ -916,6 +928,41 @@ fn items() {
 }
 
 #[test]
+fn items_alone() {
+    let value = frame(0xff, 300);
+    for kind in 0..=u8::MAX {
+        let none = !(1..=2).contains(&kind);
+        assert_eq!(item_write(true, kind, 1, &value, 0), Err(if none { 29 } else { 19 }));
+        assert_eq!(item_write(false, kind, 1, &value, 0), Err(if kind == PROPRIETARY { 19 } else { 29 }));
+    }
+    for is_event in [true, false] {
+        assert_eq!(item_write(is_event, PROPRIETARY, 9, &value[..255], 256), Err(21));
+        assert_eq!(item_write(is_event, PROPRIETARY, 9, &value[..255], 300).unwrap(), [&[9, 255][..], &value[..255]].concat());
+        assert_eq!(item_write(is_event, PROPRIETARY, 9, &[], 2).unwrap(), [9, 0]);
+        assert_eq!(item_write(is_event, PROPRIETARY, 9, &[], 1), Err(21));
+        assert_eq!(item_write(is_event, PROPRIETARY, 0, &value[..256], 0), Err(19));
+        assert_eq!(item_write(is_event, PROPRIETARY, 0, &value[..5], 0), Err(if is_event { 20 } else { 21 }));
+    }
+    // A heartbeat has tag 0 and no ignored bits; in a command the same bytes are a value.
+    let six = [1, 2, 3, 4, 5, 0xff];
+    assert_eq!(item_write(true, HEARTBEAT, 9, &six, 8).unwrap(), [0, 6, 1, 2, 3, 4, 5, 0x3f]);
+    assert_eq!(item_write(true, PROPRIETARY, 0, &six, 8).unwrap(), [0, 6, 1, 2, 3, 4, 5, 0x3f]);
+    assert_eq!(item_write(false, PROPRIETARY, 0, &six, 8).unwrap(), [0, 6, 1, 2, 3, 4, 5, 0xff]);
+    assert_eq!(item_write(true, HEARTBEAT, 9, &[], 2).unwrap(), [0, 0]);
+    assert_eq!(item_write(true, HEARTBEAT, 9, &value[..253], 300), Err(20));
+    assert_eq!(item_write(true, HEARTBEAT, 9, &value[..252], 300).unwrap().len(), 254);
+    // One that was read is written as it stood, and read again as it was.
+    let payload = [7, 2, 0xaa, 0xbb, 0, 6, 1, 2, 3, 4, 5, 6];
+    for (at, end) in [(0, 4), (4, 12)] {
+        let [found, kind, tag, start, len, next] = item(true, &payload, at as u64).unwrap();
+        assert_eq!((found, next), (1, end as u64));
+        let bytes = item_write(true, kind as u8, tag as u8, &payload[start as usize..][..len as usize], 300).unwrap();
+        assert_eq!(bytes, payload[at..end]);
+        assert_eq!(item(true, &bytes, 0), Ok([1, kind, tag, 2, len, bytes.len() as u64]));
+    }
+}
+
+#[test]
 fn key_stream() {
     let long = frame(1, 8180);
     assert_eq!(stream(true, &long, 9000), Err(5));
@@ -1339,4 +1386,43 @@ fn dumps() {
     assert_eq!(dump(&frame(0xe0, 13), 9).unwrap(), b"refused 4");
     let longest = [0xef, 0xff, 0xff, 0, 0, 0, 0, 1, 2, 3, 4, 5, 6, 7, 8];
     assert_eq!(dump(&longest, 90).unwrap(), b"[Downlink hop_count: 8, uplink_id: 4095, relay_id: 01020304, mic: 05060708]");
+}
+
+#[test]
+fn texts() {
+    let shown = [
+        "[Uplink hop_count: 1, uplink_id: 291, relay_id: 0a0b0c0d, mic: 01020304]",
+        "[Downlink hop_count: 1, uplink_id: 291, relay_id: 0a0b0c0d, mic: 01020304]",
+        "[Event hop_count: 1, timestamp: 60, relay_id: 0a0b0c0d]",
+        "[Command hop_count: 1, timestamp: 60, relay_id: 0a0b0c0d]",
+    ];
+    for (kind, shown) in (0..).zip(shown) {
+        let p = good(kind);
+        for room in 0..shown.len() {
+            assert_eq!(text(&p, room), Err(21));
+        }
+        for room in [shown.len(), 99] {
+            assert_eq!(text(&p, room).unwrap(), shown.as_bytes());
+        }
+        // Without a MIC nothing stands in its place. What no frame has is shown too: a hop count is a byte, and more counts as its largest.
+        let bare = text(&P { has_mic: 0, ..p }, 99).unwrap();
+        assert_eq!(bare, shown.replace("01020304", "").as_bytes());
+        for (hop_count, said) in [(0, "hop_count: 0,"), (9, "hop_count: 9,"), (256, "hop_count: 255,"), (u64::MAX, "hop_count: 255,")] {
+            let p = P { hop_count, start: u64::MAX, len: u64::MAX, ..p };
+            assert_eq!(text(&p, 99).unwrap(), shown.replace("hop_count: 1,", said).as_bytes());
+        }
+        // The label goes by the header, the fields by the payload.
+        let other = P { payload_type: 3 - kind, ..p };
+        assert!(text(&other, 99).unwrap().starts_with(shown_label(3 - kind)));
+        for none in [P { payload_type: 4, ..p }, P { mic: 1 << 32, ..p }, P { timestamp: 1 << 32, ..p }, P { content: 5, kind: 2, ..p }] {
+            assert_eq!(text(&none, 0), Err(29));
+        }
+    }
+    assert_eq!(text(&good(LORA), 99), Err(29));
+    let longest = P { uplink_id: 65535, hop_count: 255, mic: u32::MAX.into(), relay_id: u32::MAX.into(), ..good(DOWNLINK) };
+    assert_eq!(text(&longest, 90).unwrap(), b"[Downlink hop_count: 255, uplink_id: 65535, relay_id: ffffffff, mic: ffffffff]");
+}
+
+fn shown_label(type_: u64) -> &'static [u8] {
+    [&b"[Uplink "[..], b"[Downlink ", b"[Event ", b"[Command "][type_ as usize]
 }

@@ -19,6 +19,12 @@ use Rattle.composed_items.proofs.size.Kinds as size-kinds
 use Rattle.composed_items.proofs.size.Reads as size-reads
 use Rattle.composed_items.proofs.put_composed.Kinds as put-composed-kinds
 use Rattle.composed_items.proofs.put_composed.Reads as put-composed-reads
+use Rattle.composed_items.proofs.one.write_item.Kinds as write-item-kinds
+use Rattle.composed_items.proofs.one.write_item.Reads as write-item-reads
+use Rattle.composed_items.proofs.one.encode_event.Kinds as encode-event-kinds
+use Rattle.composed_items.proofs.one.encode_event.Reads as encode-event-reads
+use Rattle.composed_items.proofs.one.encode_command.Kinds as encode-command-kinds
+use Rattle.composed_items.proofs.one.encode_command.Reads as encode-command-reads
 
 run-of : Fixed 0 run-of-kinds.ps run-of-kinds.r run-of-reads.Post
 run-of κs a x y v w p q = (p ∙ sym q, refl)
@@ -43,3 +49,12 @@ size κs a x y v w p q = (p ∙ sym q, refl)
 
 put-composed : Fixed 7 put-composed-kinds.ps put-composed-kinds.r put-composed-reads.Post
 put-composed κs a x y v w p q = (refl, ap (λ (l : List ℕ). (tt, (tt, (tt, (tt, (tt, (tt, (tt, (tt, (l, (tt, tt))))))))))) (p ∙ sym q))
+
+write-item : Fixed 2 write-item-kinds.ps write-item-kinds.r write-item-reads.Post
+write-item κs a x y v w p q = (p .0 ∙ sym (q .0), ap (λ (l : List ℕ). (tt, (tt, (tt, (tt, (l, tt)))))) (p .1 ∙ sym (q .1)))
+
+encode-event : Fixed 2 encode-event-kinds.ps encode-event-kinds.r encode-event-reads.Post
+encode-event κs a x y v w p q = (p .0 ∙ sym (q .0), ap (λ (l : List ℕ). (tt, (tt, (l, tt)))) (p .1 ∙ sym (q .1)))
+
+encode-command : Fixed 2 encode-command-kinds.ps encode-command-kinds.r encode-command-reads.Post
+encode-command κs a x y v w p q = (p .0 ∙ sym (q .0), ap (λ (l : List ℕ). (tt, (tt, (l, tt)))) (p .1 ∙ sym (q .1)))

@@ -1,4 +1,5 @@
-// Items that a caller composes, in lent lists: judged pass by pass over the whole list, measured, and laid into a lent buffer.
+// Items that a caller composes, in lent lists: judged pass by pass over the whole list, measured, and laid into a lent buffer. One alone is in
+// `one`.
 ghost use mathlib.Core.Path.{_≡_};
 ghost use mathlib.Core.List.{[]};
 ghost use mathlib.Core.Bool.{false as no};
@@ -16,6 +17,9 @@ ghost use Rattle.kept_items.specs.Kept.{headed};
 ghost use Rattle.composed_items.specs.Composed.{lists, tagOf, itemIn, itemsIn, itemWire, badKind, kindsRefusal, verdictOf, composedBytes};
 ghost use Rattle.composed_items.specs.inner.Passes.{capped, pairAt, reachFor, faultOf, totalOf};
 ghost use Rattle.wire.specs.Run.{runAt};
+
+mod one;
+
 use base::Limit;
 use base::Refusal;
 use base::least;
@@ -27,6 +31,9 @@ use items::ItemKind;
 use kept_items::is_beat;
 use kept_items::low_byte;
 use kept_items::put_item;
+pub use one::encode_command;
+pub use one::encode_event;
+pub use one::write_item;
 use wire::Run;
 use wire::put_all;
 
@@ -85,7 +92,7 @@ fn span_at(spans: &[[u32; 2]], i: usize) -> [u32; 2]
 }
 
 // A heartbeat's and a path's is 0.
-fn tag_of(kind: u8, tag: u8) -> u8
+pub(crate) fn tag_of(kind: u8, tag: u8) -> u8
     ensures { λ r. ⌜ r ≡ tagOf kind tag ⌝ }
 {
     if kind == ItemKind::PROPRIETARY {

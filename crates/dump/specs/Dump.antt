@@ -56,23 +56,27 @@ unfoldable pub lineOf : PayloadType → ℕ → List ℕ → ℕ → ℕ → Lis
 lineOf t hops word n relay tail =
     labelOf t ++ decimal hops ++ word ++ decimal n ++ ascii ", relay_id: " ++ fourText relay ++ tail ++ ascii "]"
 
+-- nothing where there is none, as in the Rust
+abbrev pub micText : Bool → ℕ → List ℕ
+micText has mic = pick has (fourText mic) []
+
 -- of an uplink or a downlink
-abbrev pub linkText : PayloadType → ℕ → ℕ → ℕ → ℕ → List ℕ
-linkText t hops id relay mic = lineOf t hops (ascii ", uplink_id: ") id relay (ascii ", mic: " ++ fourText mic)
+abbrev pub linkText : PayloadType → ℕ → ℕ → ℕ → Bool → ℕ → List ℕ
+linkText t hops id relay has mic = lineOf t hops (ascii ", uplink_id: ") id relay (ascii ", mic: " ++ micText has mic)
 
 -- of an event or a command; a timestamp is plain seconds
 abbrev pub stampedText : PayloadType → ℕ → ℕ → ℕ → List ℕ
 stampedText t hops timestamp relay = lineOf t hops (ascii ", timestamp: ") timestamp relay []
 
-abbrev pub payloadText : PayloadType → ℕ → ℕ → Payload → List ℕ
-payloadText t hops mic (AnUplink p) = linkText t hops (p .metadata .«uplink_id») (p .«relay_id») mic
-payloadText t hops mic (ADownlink p) = linkText t hops (p .metadata .«uplink_id») (p .«relay_id») mic
-payloadText t hops mic (AnEvent p) = stampedText t hops (p .timestamp) (p .«relay_id»)
-payloadText t hops mic (ACommand p) = stampedText t hops (p .timestamp) (p .«relay_id»)
+abbrev pub payloadText : PayloadType → ℕ → Bool → ℕ → Payload → List ℕ
+payloadText t hops has mic (AnUplink p) = linkText t hops (p .metadata .«uplink_id») (p .«relay_id») has mic
+payloadText t hops has mic (ADownlink p) = linkText t hops (p .metadata .«uplink_id») (p .«relay_id») has mic
+payloadText t hops has mic (AnEvent p) = stampedText t hops (p .timestamp) (p .«relay_id»)
+payloadText t hops has mic (ACommand p) = stampedText t hops (p .timestamp) (p .«relay_id»)
 
--- the label goes by the header's type and the fields by the payload's kind, as in the Rust; a frame that was read has a MIC
+-- the label goes by the header's type and the fields by the payload's kind, as in the Rust
 unfoldable pub meshText : MeshPacket → List ℕ
-meshText p = payloadText (p .mhdr .«payload_type») (p .mhdr .«hop_count») (p .mic) (p .payload)
+meshText p = payloadText (p .mhdr .«payload_type») (p .mhdr .«hop_count») (p .«has_mic») (p .mic) (p .payload)
 
 abbrev pub withNumber : List ℕ → ℕ → List ℕ
 withNumber word n = word ++ decimal n

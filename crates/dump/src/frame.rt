@@ -111,10 +111,29 @@ fn write_line(
 }
 
 // Uplinks and downlinks.
-fn write_link(t: PayloadType, hops: u8, id: u16, relay: u32, mic: u32, out: &mut [u8]) -> Written
-    ensures answer { λ r. ⌜ r ≡ answerOf (bytes (linkText t hops id relay mic)) (now (out .entry)) ⌝ }
-    ensures bytes { λ _. ⌜ now (out .exit) ≡ outOf (bytes (linkText t hops id relay mic)) (now (out .entry)) ⌝ }
+fn write_link(
+    t: PayloadType,
+    hops: u8,
+    id: u16,
+    relay: u32,
+    has_mic: bool,
+    mic: u32,
+    out: &mut [u8],
+) -> Written
+    ensures answer { λ r. ⌜ r ≡ answerOf (bytes (linkText t hops id relay «has_mic» mic)) (now (out .entry)) ⌝ }
+    ensures bytes { λ _. ⌜ now (out .exit) ≡ outOf (bytes (linkText t hops id relay «has_mic» mic)) (now (out .entry)) ⌝ }
 {
+    if !has_mic {
+        return write_line(
+            t,
+            hops as u32,
+            b", uplink_id: ",
+            id as u32,
+            relay,
+            b", mic: ",
+            out,
+        );
+    }
     let mut tail = [0u8; 15];
     put_all(b", mic: ", &mut tail, 0);
     put_four(mic, &mut tail, 7);
@@ -137,18 +156,22 @@ fn write_stamped(t: PayloadType, hops: u8, timestamp: u32, relay: u32, out: &mut
     write_line(t, hops as u32, b", timestamp: ", timestamp, relay, b"", out)
 }
 
-// The label goes by the header, the fields by the payload, as in the Rust.
-fn write_mesh(p: MeshPacket, out: &mut [u8]) -> Written
-    ensures answer { λ r. ⌜ r ≡ answerOf (bytes (meshText p)) (now (out .entry)) ⌝ }
-    ensures bytes { λ _. ⌜ now (out .exit) ≡ outOf (bytes (meshText p)) (now (out .entry)) ⌝ }
+// The text of a packet in hand (the Rust's Display), or 21. The label goes by the header, the fields by the payload, as in the Rust.
+pub fn write_text(packet: MeshPacket, out: &mut [u8]) -> Written
+    ensures answer { λ r. ⌜ r ≡ answerOf (bytes (meshText packet)) (now (out .entry)) ⌝ }
+    ensures bytes { λ _. ⌜ now (out .exit) ≡ outOf (bytes (meshText packet)) (now (out .entry)) ⌝ }
 {
-    let mhdr = p.mhdr;
+    let mhdr = packet.mhdr;
     let t = mhdr.payload_type;
     let hops = mhdr.hop_count;
-    let payload = p.payload;
+    let has = packet.has_mic;
+    let mic = packet.mic;
+    let payload = packet.payload;
     match payload {
-        Payload::Uplink(u) => write_link(t, hops, u.metadata.uplink_id, u.relay_id, p.mic, out),
-        Payload::Downlink(d) => write_link(t, hops, d.metadata.uplink_id, d.relay_id, p.mic, out),
+        Payload::Uplink(u) => write_link(t, hops, u.metadata.uplink_id, u.relay_id, has, mic, out),
+        Payload::Downlink(d) => {
+            write_link(t, hops, d.metadata.uplink_id, d.relay_id, has, mic, out)
+        }
         Payload::Event(e) => write_stamped(t, hops, e.timestamp, e.relay_id, out),
         Payload::Command(c) => write_stamped(t, hops, c.timestamp, c.relay_id, out),
     }
@@ -163,7 +186,7 @@ pub fn dump_frame(frame: &[u8], out: &mut [u8]) -> Written
         PacketRead::Refused(n) => write_refused(n, out),
         PacketRead::Packet(p) => match p {
             Packet::Lora(run) => write_counted(b"lora ", run.len as u32, out),
-            Packet::Mesh(m) => write_mesh(m, out),
+            Packet::Mesh(m) => write_text(m, out),
         },
     }
 }

@@ -1,6 +1,7 @@
 // Calls the forms that document 01 names and that no other program reaches: the cache's `add` in place, a heartbeat's path into and from a
-// lent list of records, and an item's value as a part of what holds it. And what the layers above have no use for: a packet's record and its
-// plain struct, the least and largest values, numbers of two bytes. It prints a line for each; the gate compares with the file stdout.
+// lent list of records, and an item's value as a part of what holds it. And what the layers above have no use for: an item alone, a packet's
+// record and its plain struct, the least and largest values, numbers of two bytes. It prints a line for each; the gate compares with the file
+// stdout.
 mod lent;
 
 use base::Checked;
@@ -9,6 +10,8 @@ use cache::Cache;
 use cache::CacheAnswer;
 use cache::PayloadCache;
 use cache_words::Words;
+use composed_items::encode_command;
+use composed_items::encode_event;
 use contents::Content;
 use contents::Held;
 use events::CommandPayload;
@@ -273,6 +276,42 @@ fn values() {
     value(b", value ", in_work, sealed, frame, work);
 }
 
+// ---- an item alone, as it is written in an event and in a command
+fn made(w: Written, out: &[u8]) {
+    match w {
+        Written::Bytes(n) => hex(b"", part(out, 0, n)),
+        Written::Refused(n) => plain(b"refused ", n as u64),
+    }
+}
+
+fn encoded(label: &[u8], item: Item, payload: &[u8]) {
+    let mut out = [0u8; 16];
+    say(label);
+    let event = encode_event(item, payload, &mut out);
+    made(event, &out);
+    say(b", in a command ");
+    let command = encode_command(item, payload, &mut out);
+    made(command, &out);
+    say(b"\n");
+}
+
+fn encoded_at(label: &[u8], payload: &[u8], at: usize) {
+    match Event::decode(payload, at) {
+        ItemRead::Kept { item, next: _ } => encoded(label, item, payload),
+        _ => say(b"no item\n"),
+    }
+}
+
+fn encodings() {
+    let payload = b"\x00\x06\x0a\x0b\x0c\x0d\x50\xc7\x01\x02\xaa\xbb";
+    encoded_at(b"a heartbeat encoded      ", payload, 0);
+    encoded_at(b"another item encoded     ", payload, 8);
+    let run = Item::sealed(Run { start: 10, len: 2 });
+    encoded(b"a sealed run encoded     ", run, payload);
+    let past = Item::sealed(Run { start: 10, len: 3 });
+    encoded(b"one past the payload     ", past, payload);
+}
+
 // ---- a packet's record, and a packet as a plain struct
 fn known(label: &[u8], r: PayloadCache) {
     let p_type = r.p_type;
@@ -380,6 +419,7 @@ fn main() {
     paths();
     entries();
     values();
+    encodings();
     packets();
     bodies();
     limits();

@@ -23,7 +23,7 @@ skip ev (suc k) [] = refl
 skip ev (suc k) (x ∷ s) = skip ev k s
 
 -- two bytes and the rest
-heads : (s : List ℕ) (at : ℕ) → at + 2 ≤ length s → drop at s ≡ getD s at 0 ∷ getD s (at + 1) 0 ∷ drop (at + 2) s
+pub heads : (s : List ℕ) (at : ℕ) → at + 2 ≤ length s → drop at s ≡ getD s at 0 ∷ getD s (at + 1) 0 ∷ drop (at + 2) s
 heads s at h =
     let a : at < length s = omega arith in
     let b : at + 1 < length s = omega arith in

@@ -62,6 +62,8 @@ use Rattle.mesh_c.proofs.item.mesh_heartbeat.Kinds as mesh-heartbeat-ki
 use Rattle.mesh_c.proofs.item.mesh_heartbeat.Reads as mesh-heartbeat-reads
 use Rattle.mesh_c.proofs.item.mesh_heartbeat_entry.Kinds as mesh-heartbeat-entry-kinds
 use Rattle.mesh_c.proofs.item.mesh_heartbeat_entry.Reads as mesh-heartbeat-entry-reads
+use Rattle.mesh_c.proofs.item.mesh_item_write.Kinds as mesh-item-write-kinds
+use Rattle.mesh_c.proofs.item.mesh_item_write.Reads as mesh-item-write-reads
 use Rattle.mesh_c.proofs.item.mesh_heartbeat_write.Kinds as mesh-heartbeat-write-kinds
 use Rattle.mesh_c.proofs.item.mesh_heartbeat_write.Reads as mesh-heartbeat-write-reads
 use Rattle.mesh_c.proofs.frame.mesh_read.Kinds as mesh-read-kinds
@@ -92,6 +94,8 @@ use Rattle.mesh_c.proofs.record.mesh_cache_clear.Kinds as mesh-cache-cl
 use Rattle.mesh_c.proofs.record.mesh_cache_clear.Reads as mesh-cache-clear-reads
 use Rattle.mesh_c.proofs.record.mesh_cache_add.Kinds as mesh-cache-add-kinds
 use Rattle.mesh_c.proofs.record.mesh_cache_add.Reads as mesh-cache-add-reads
+use Rattle.mesh_c.proofs.text.mesh_text.Kinds as mesh-text-kinds
+use Rattle.mesh_c.proofs.text.mesh_text.Reads as mesh-text-reads
 use Rattle.mesh_c.proofs.text.mesh_dump_line.Kinds as mesh-dump-line-kinds
 use Rattle.mesh_c.proofs.text.mesh_dump_line.Reads as mesh-dump-line-reads
 use Rattle.mesh_c.proofs.text.mesh_dump_frame.Kinds as mesh-dump-frame-kinds
@@ -224,6 +228,10 @@ mesh-heartbeat-entry κs a x y v w p q = (
       ∙ ap₂ (λ (b : ℤ) (c : ℤ). (tt, (tt, (w .1 .1 .0, (b, (c, tt)))))) (p .1 .1 .0 ∙ sym (q .1 .1 .0)) (p .1 .1 .1 ∙ sym (q .1 .1 .1)),
 )
 
+mesh-item-write : Fixed 3 mesh-item-write-kinds.ps mesh-item-write-kinds.r mesh-item-write-reads.Post
+mesh-item-write κs a x y v w p q =
+    (p .0 ∙ sym (q .0), ap₂ (λ (a : List ℕ) (b : ℕ). (tt, (tt, (tt, (tt, (a, (b, tt))))))) (p .1 .0 ∙ sym (q .1 .0)) (p .1 .1 ∙ sym (q .1 .1)))
+
 mesh-heartbeat-write : Fixed 5 mesh-heartbeat-write-kinds.ps mesh-heartbeat-write-kinds.r mesh-heartbeat-write-reads.Post
 mesh-heartbeat-write κs a x y v w p q =
     (p .0 ∙ sym (q .0), ap₂ (λ (a : List ℕ) (b : ℕ). (tt, (tt, (tt, (a, (b, tt)))))) (p .1 .0 ∙ sym (q .1 .0)) (p .1 .1 ∙ sym (q .1 .1)))
@@ -295,6 +303,10 @@ mesh-cache-clear κs a x y v w p q =
 mesh-cache-add : Fixed 3 mesh-cache-add-kinds.ps mesh-cache-add-kinds.r mesh-cache-add-reads.Post
 mesh-cache-add κs a x y v w p q =
     (p .0 ∙ sym (q .0), ap₂ (λ (a : List ℕ) (b : ℕ). (a, (tt, (b, tt)))) (p .1 .0 ∙ sym (q .1 .0)) (p .1 .1 ∙ sym (q .1 .1)))
+
+mesh-text : Fixed 3 mesh-text-kinds.ps mesh-text-kinds.r mesh-text-reads.Post
+mesh-text κs a x y v w p q =
+    (p .0 ∙ sym (q .0), ap₂ (λ (a : List ℕ) (b : ℕ). (tt, (a, (b, tt)))) (p .1 .0 ∙ sym (q .1 .0)) (p .1 .1 ∙ sym (q .1 .1)))
 
 mesh-dump-line : Fixed 3 mesh-dump-line-kinds.ps mesh-dump-line-kinds.r mesh-dump-line-reads.Post
 mesh-dump-line κs a x y v w p q =

@@ -8,7 +8,7 @@ use lib.IntN.{ℤ, pos}
 use lib.ListN.{getD}
 use Rattle.base.specs.Pick.{pick}
 use Rattle.base.specs.Numbers.{typeLarge}
-use Rattle.base.specs.Answers.{Answer, value, number, leftBy, Writing, refused}
+use Rattle.base.specs.Answers.{Answer, value, number, leftBy, Writing, bytes, refused}
 use Rattle.fields.specs.Limits.{timestampMost, relayIdMost}
 use Rattle.keys.specs.declared.Aes128Key.{Aes128Key}
 use Rattle.fields.specs.Header.{codeOf, typeRead, headerByte}
@@ -28,7 +28,6 @@ use Rattle.items.specs.declared.count.Opening.{Opening}
 use Rattle.contents.specs.Content.{Lent}
 use Rattle.links.specs.Write.{limitedOf}
 use Rattle.packets.specs.Write.{payloadWire}
-use Rattle.sealing.specs.Mesh.{sealOf, meshSealed, meshDecrypted, meshWork, meshDecoded}
 use Rattle.packets.specs.declared.mesh.MeshPacket.{MeshPacket}
 use Rattle.packets.specs.declared.mesh.MeshRead.{MeshRead}
 use Rattle.packets.specs.declared.mesh.MeshRead.the-variants.{Mesh, Refused as NoMesh}
@@ -39,6 +38,7 @@ use Rattle.sealing.specs.declared.mesh.MeshOpened.the-variants.{Refused as NotO
 use Rattle.mic.specs.Mic.{setMic, validateMic}
 use Rattle.mic.specs.declared.Validated.{Validated}
 use Rattle.mic.specs.declared.Validated.the-variants.{Refused as NotValidated}
+use Rattle.dump.specs.Dump.{meshText}
 use Rattle.numbers.specs.Numbers.{bit, payloadPlace, atMost, meshFrom, micSet, placeSet}
 use Rattle.cache.specs.Cache.{rec, recordOf}
 use Rattle.cache.specs.declared.record.PayloadCache.{PayloadCache}
@@ -48,7 +48,7 @@ use Rattle.cache_words.specs.inner.Packed.{addAnswer, addWords}
 
 -- the version of the declarations in include/mesh.h
 abbrev pub faceVersion : ℕ
-faceVersion = 2
+faceVersion = 3
 
 -- ---- keys, fields and items
 
@@ -131,6 +131,10 @@ numbersWork k ns frame work = ifMesh (λ (p : MeshPacket). meshWork k (p .payloa
 
 unfoldable pub numbersDecoded : List ℕ → List ℕ → List ℕ → MeshOpened
 numbersDecoded ns frame work = ifMesh (λ (p : MeshPacket). meshDecoded p (p .payload) frame work) NotOpened (meshFrom ns (pos 0) (pos 0))
+
+-- its text, which has neither rssi nor snr
+unfoldable pub numbersText : List ℕ → Writing
+numbersText ns = ifMesh (λ (p : MeshPacket). bytes (meshText p)) refused (meshFrom ns (pos 0) (pos 0))
 
 -- the numbers after, in place: those before with the MIC, or with content, start and len; all as before on a refusal
 abbrev pub signedLeft : List ℕ → Answer MeshPacket → List ℕ

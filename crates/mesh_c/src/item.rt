@@ -5,10 +5,12 @@ ghost use Rattle.base.specs.Answers.{answerOf, outOf, numberIn, leftBy, written
 ghost use Rattle.heartbeats.specs.Heartbeat.{beatSays, beatOf, pathSays, entryRead, beatWire};
 ghost use Rattle.heartbeats.specs.Paths.{paths, pathsIn};
 ghost use Rattle.items.specs.Items.{countsOf, countsSay, bareItemAt, itemSays};
+ghost use Rattle.composed_items.specs.One.{oneWire};
 ghost use Rattle.key_stream.specs.Stream.{sealedOf};
 ghost use Rattle.mesh_c.specs.Face.{asItIs, countList, itemList, foundList, entriesIn, entryRelay, entryRssi, entrySnr};
 use crate::field::from_u8;
 use base::Written;
+use composed_items::write_item;
 use heartbeats::HeartbeatPayload;
 use heartbeats::HeartbeatRead;
 use heartbeats::PathRead;
@@ -153,6 +155,23 @@ pub extern "C" fn mesh_item(is_event: bool, payload: &[u8], at: u64, item: &mut 
             0
         }
     }
+}
+
+// One item alone, of a kind, a tag and a value in bytes: 0 with its length, or 29, 19, 20, 21.
+#[no_mangle]
+pub extern "C" fn mesh_item_write(
+    is_event: bool,
+    kind: u8,
+    tag: u8,
+    value: &[u8],
+    out: &mut [u8],
+    length: &mut u64,
+) -> u8
+    ensures answer { λ r. ⌜ r ≡ numberIn (writtenSays (answerOf (oneWire «is_event» kind tag (now (value .entry))) (now (out .entry)))) ⌝ }
+    ensures out { λ _. ⌜ now (out .exit) ≡ outOf (oneWire «is_event» kind tag (now (value .entry))) (now (out .entry)) ⌝ }
+    ensures length { λ _. ⌜ now (length .exit) ≡ leftBy asItIs (now (length .entry)) (writtenSays (answerOf (oneWire «is_event» kind tag (now (value .entry))) (now (out .entry)))) ⌝ }
+{
+    put_length(write_item(is_event, kind, tag, value, out), length)
 }
 
 // ---- heartbeats

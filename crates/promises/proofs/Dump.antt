@@ -21,6 +21,9 @@ use Rattle.fields.proofs.Laws.Header.{marked}
 use Rattle.links.specs.Read.{uplinkAt, downlinkAt}
 use Rattle.events.specs.Read.{stampedAt, eventAt, commandAt}
 use Rattle.packets.specs.Read.{bodyIn, payloadAt, withPayload, withHeader, meshOf, ofMesh, packetOf, packetSays}
+use Rattle.links.specs.declared.uplink.UplinkPayload.{UplinkPayload}
+use Rattle.links.specs.declared.downlink.DownlinkPayload.{DownlinkPayload}
+use Rattle.packets.specs.declared.mesh.Payload.the-variants.{Uplink as AnUplink, Downlink as ADownlink}
 use Rattle.packets.specs.declared.mesh.MeshPacket.{MeshPacket}
 use Rattle.packets.specs.declared.any.Packet.{Packet}
 use Rattle.packets.specs.declared.any.Packet.the-variants.{Mesh}
@@ -29,10 +32,10 @@ use Rattle.packets.specs.declared.any.PacketRead.the-variants.{Packet as Packet
 use Rattle.round_trips.specs.Which.{leastFrame, meshNumber, packetNumber}
 use Rattle.round_trips.proofs.Which.{body-length}
 use Rattle.dump.specs.Ascii.{ascii}
-use Rattle.dump.specs.Dump.{lastDigits, decimal, meshText, frameText, badHex, lineText, fromDigits}
+use Rattle.dump.specs.Dump.{lastDigits, decimal, lineOf, meshText, frameText, badHex, lineText, fromDigits}
 use Rattle.dump.proofs.Examples as examples
 use Rattle.dump.proofs.Laws.Decimal.{decimal-back}
-use Rattle.dump.proofs.Laws.Text.{text-of, hex-line, line-bad, line-long, line-text-most}
+use Rattle.dump.proofs.Laws.Text.{text-of, mesh-text-most, hex-line, line-bad, line-long, line-text-most}
 use Rattle.promises.proofs.Demand2.{packet-reader}
 
 -- ---- document 01's example, its four lines and what is printed for each
@@ -53,6 +56,17 @@ mesh-text s p e = by (packetOf s) refl e
     by : (r : PacketRead) → r ≡ packetOf s → packetSays r ≡ value (Mesh p) → frameText s ≡ meshText p
     by (PacketIs q) g h = let z : q ≡ Mesh p = cc in text-of s (PacketIs q) g ∙ rw z refl
     by (Refused n) g h = let z : _≡_ {A = ℕ} 0 1 = cc in absurd (omega arith)
+
+-- a packet in hand that has no MIC: nothing stands in its place
+pub uplink-without-mic : (p : MeshPacket) (u : UplinkPayload) → p .payload ≡ AnUplink u → p .«has_mic» ≡ false
+    → meshText p ≡ lineOf (p .mhdr .«payload_type») (p .mhdr .«hop_count») (ascii ", uplink_id: ") (u .metadata .«uplink_id») (u .«relay_id») (ascii ", mic: ")
+unfolding meshText
+uplink-without-mic p u q e = rw (q, e) refl
+
+pub downlink-without-mic : (p : MeshPacket) (u : DownlinkPayload) → p .payload ≡ ADownlink u → p .«has_mic» ≡ false
+    → meshText p ≡ lineOf (p .mhdr .«payload_type») (p .mhdr .«hop_count») (ascii ", uplink_id: ") (u .metadata .«uplink_id») (u .«relay_id») (ascii ", mic: ")
+unfolding meshText
+downlink-without-mic p u q e = rw (q, e) refl
 
 -- "`lora` gives the byte count"
 pub lora-counts-bytes : (s : List ℕ) → 1 ≤ length s → length s ≤ 8192 → (getD s 0 0 / 32 ≡ 7 → ⊥) → frameText s ≡ ascii "lora " ++ decimal (length s)
@@ -198,6 +212,9 @@ pub either-case : (l : List ℕ) → lineText (map lower l) ≡ lineText l
 unfolding lineText badHex
 either-case l = rw (same-length l, same-hex l, same-bytes l) refl
 
--- no text is longer than 90 bytes, so an output of 90 is never too short
+-- no text is longer than 90 bytes, of a packet in hand neither, so an output of 90 is never too short
 pub text-is-short : (l : List ℕ) → length (lineText l) ≤ 90
 text-is-short = line-text-most
+
+pub packet-text-is-short : (p : MeshPacket) → length (meshText p) ≤ 90
+packet-text-is-short = mesh-text-most

@@ -63,8 +63,9 @@ use Rattle.hops.specs.Hops.{leaves}
 use Rattle.cache.specs.Cache.{addSays}
 use Rattle.cache.specs.declared.ring.CacheAnswer.the-variants.{Refused as NotAdded}
 use Rattle.cache_words.specs.inner.Packed.{clearAnswer, clearWords}
+use Rattle.dump.specs.Dump.{meshText}
 use Rattle.numbers.specs.Numbers.{bodyRead, around, bareBy, tooWide, strangeContent, typedBy, kindBy, meshFrom, packetFrom, ifPacket, numbersFrame, runFrom}
-use Rattle.mesh_c.specs.Face.{headerByteBy, ifMesh, numbersBody, numbersSigned, numbersValid, numbersSealed, numbersSeal, numbersDecrypted, numbersWork, numbersDecoded, openedNumber, countsLeft, openedLeft, recordWide, recordFrom, answerBy, wordsBy, cacheAnswer, cacheWords}
+use Rattle.mesh_c.specs.Face.{headerByteBy, ifMesh, numbersBody, numbersText, numbersSigned, numbersValid, numbersSealed, numbersSeal, numbersDecrypted, numbersWork, numbersDecoded, openedNumber, countsLeft, openedLeft, recordWide, recordFrom, answerBy, wordsBy, cacheAnswer, cacheWords}
 use Rattle.promises.specs.Said.{Accepts, Numbered}
 use Rattle.promises.proofs.Demand1.{refused-writes-nothing, refused-edit-changes-nothing, refused-clear-changes-nothing, refused-add-changes-no-word, refused-sealing-writes-nothing}
 use Rattle.promises.proofs.Refusals.{picked, zero-accepts, accepts-zero, no-refusal-is-0}
@@ -282,6 +283,13 @@ module _ (l : Lent) (ns : List ℕ) (rssi snr : ℤ) (out : List ℕ) where
     by (Mesh p) s = no-refusal-is-0 .body-write l (p .payload) out
     by (NoMesh n) s = s
 
+text-numbered : (ns out : List ℕ) → Numbered (writtenSays (answerOf (numbersText ns) out))
+unfolding numbersText answerOf
+text-numbered ns out = by (meshFrom ns (pos 0) (pos 0)) (mesh-numbered ns (pos 0) (pos 0)) where
+  by : (r : MeshRead) → Numbered (meshSays r) → Numbered (writtenSays (answerOf (ifMesh (λ (p : MeshPacket). bytes (meshText p)) refused r) out))
+  by (Mesh p) s = no-refusal-is-0 .of-bytes (meshText p) out
+  by (NoMesh n) s = s
+
 sealed-numbered : (k : List ℕ) (l : Lent) (ns out : List ℕ) → Numbered (meshSays (numbersSealed k l ns out))
 unfolding numbersSealed
 sealed-numbered k l ns out = by (meshFrom ns (pos 0) (pos 0)) (mesh-numbered ns (pos 0) (pos 0)) where
@@ -338,6 +346,7 @@ pub record NoZeroForC : Type 0 where
   pub mesh-decrypt : (k ns frame work : List ℕ) → Numbered (meshOpenedSays (numbersDecrypted k ns frame work))
   pub mesh-decode : (ns frame work : List ℕ) → Numbered (meshOpenedSays (numbersDecoded ns frame work))
   pub mesh-record : (ns : List ℕ) → Numbered (meshSays (meshFrom ns (pos 0) (pos 0)))
+  pub mesh-text : (ns out : List ℕ) → Numbered (writtenSays (answerOf (numbersText ns) out))
   pub mesh-cache-add : (w rs : List ℕ) → Numbered (addSays (cacheAnswer w rs))
 
 pub no-refusal-is-0-for-c : NoZeroForC
@@ -353,6 +362,7 @@ no-refusal-is-0-for-c =
       mesh-decrypt = λ k ns frame work. decrypted-numbered ns frame work k;
       mesh-decode = decoded-numbered;
       mesh-record = λ ns. mesh-numbered ns (pos 0) (pos 0);
+      mesh-text = text-numbered;
       mesh-cache-add = added-numbered;
     }
 

@@ -37,6 +37,10 @@ use Rattle.fields.specs.declared.meta.UplinkMetadata.{UplinkMetadata}
 use Rattle.fields.specs.declared.meta.DownlinkMetadata.{DownlinkMetadata}
 use Rattle.fields.specs.declared.path.RelayPath.{RelayPath}
 use Rattle.items.specs.Items.{badBeat, openingOf, itemAt, bareItemAt, countsOf, itemSays, countsSay}
+use Rattle.items.specs.declared.item.Item.{Item}
+use Rattle.items.specs.declared.item.ItemKind.{ItemKind}
+use Rattle.items.specs.declared.item.ItemKind.the-variants as kind
+use Rattle.composed_items.specs.One.{strangeKind, oneRefusal, oneWire, sealedWire, encodedIn, encodedBy, encodedOf}
 use Rattle.heartbeats.specs.Heartbeat.{entryAt, beatRefusal, entryRefusal, beatOf, beatWire, entryRead, beatSays, pathSays}
 use Rattle.heartbeats.specs.declared.heartbeat.HeartbeatRead.the-variants.{Heartbeat, Refused as NoBeat}
 use Rattle.heartbeats.specs.declared.heartbeat.PathRead.the-variants.{Entry, Refused as NoEntry}
@@ -251,6 +255,24 @@ entry v i = by (eqb (entryRefusal (length v) i) 0) refl where
 path : (ps : List RelayPath) → Numbered (frameSays (beatWire ps))
 unfolding beatWire
 path ps = unless (firstOf badEntry ps) _ (picked frameSays (ltb pathMost (length ps)) _ _ (omega arith) tt)
+
+alone-item : (ev : Bool) (kind tag : ℕ) (v : List ℕ) → Numbered (frameSays (oneWire ev kind tag v))
+unfolding oneWire
+alone-item ev kind tag v = unless (oneRefusal ev kind tag (length v)) _ tt
+
+encoded-in : (ev : Bool) (kind tag : ℕ) (r : Run) (s : List ℕ) → Numbered (frameSays (encodedIn ev kind tag r s))
+unfolding encodedIn
+encoded-in ev kind tag r s = picked frameSays (strangeKind ev kind) _ _ (omega arith) (unless (runRefusal (length s) r) _ (alone-item ev kind tag (runBytes s r)))
+
+encoded-by : (ev : Bool) (k : ItemKind) (tag : ℕ) (r : Run) (s : List ℕ) → Numbered (frameSays (encodedBy ev k tag r s))
+unfolding sealedWire
+encoded-by ev kind.Encrypted tag r s = unless (runRefusal (length s) r) _ (picked frameSays (ltb payloadMost (length (runBytes s r))) _ _ (omega arith) tt)
+encoded-by ev kind.Heartbeat tag r s = encoded-in ev 1 tag r s
+encoded-by ev kind.Proprietary tag r s = encoded-in ev 2 tag r s
+
+encoded : (ev : Bool) (i : Item) (s : List ℕ) → Numbered (frameSays (encodedOf ev i s))
+unfolding encodedOf
+encoded ev i s = encoded-by ev (i .kind) (i .tag) (i .value) s
 
 stream : (key : List ℕ) (ev : Bool) (relay time : ℕ) (s : List ℕ) → Numbered (frameSays (sealedOf key ev relay time s))
 unfolding sealedOf
@@ -600,6 +622,8 @@ pub record NoZero : Type 0 where
   pub path-to-bytes : (p : RelayPath) → Numbered (checkedSays (pathBytes p .answer) (pathBytes p .bytes))
   -- items, heartbeats, the stream
   pub decode-item : (ev : Bool) (s : List ℕ) (at : ℕ) → Numbered (itemSays (bareItemAt ev s at))
+  pub write-item : (ev : Bool) (kind tag : ℕ) (v out : List ℕ) → Numbered (writtenSays (answerOf (oneWire ev kind tag v) out))
+  pub encode-item : (ev : Bool) (i : Item) (s out : List ℕ) → Numbered (writtenSays (answerOf (encodedOf ev i s) out))
   pub count-items : (ev : Bool) (s : List ℕ) → Numbered (countsSay (countsOf ev s))
   pub heartbeat-from-slice : (v : List ℕ) (places : ℕ) → Numbered (beatSays (beatOf v places))
   pub heartbeat-entry : (v : List ℕ) (i : ℕ) → Numbered (pathSays (entryRead v i))
@@ -657,6 +681,8 @@ no-refusal-is-0 =
       downlink-to-bytes = λ m. checks (downWire m) _ (downlink-metadata m);
       path-to-bytes = λ p. checks (pathWire p) _ (path-entry p);
       decode-item = item;
+      write-item = λ ev kind tag v out. writes (oneWire ev kind tag v) out (alone-item ev kind tag v);
+      encode-item = λ ev i s out. writes (encodedOf ev i s) out (encoded ev i s);
       count-items = counts;
       heartbeat-from-slice = heartbeat;
       heartbeat-entry = entry;

@@ -6,13 +6,14 @@ use mathlib.Core.Path.{_≡_, refl, sym, ap, _∙_}
 use lib.Dec.{ltb, eqb}
 use mathlib.Core.List.{List, [], _∷_}
 use lib.IntN.{ℤ, pos, negℤ}
-use lib.ListN.{length, getD, replicate}
+use lib.ListN.{length, getD, take, drop, replicate}
 use borrow.Author.Tests.{lt-ltb, le-ltb, eq-eqb, ne-eqb}
 use Rattle.base.specs.Lists.{Bytes}
 use Rattle.base.specs.Blocks.{Block}
 use Rattle.base.specs.Numbers.{hopsNone, hopsMany, notMesh, typeLarge, keyLength, keyDigit, frequencyLarge, frequencyStep, frequencyLength, bodyShort, cacheSize, itemLong, heartbeatLength, outputShort, outside}
 use Rattle.base.specs.Answers.{value, number, bytes, checkedSays}
 use Rattle.wire.specs.Hex.{allHex, unhex, hexText}
+use Rattle.wire.specs.Run.{runAt, runBytes}
 use Rattle.fips197.specs.Aes.{aes}
 use Rattle.keys.specs.Key.{keyOf, keySays, keyFromSlice, keyFromText}
 use Rattle.derivation.specs.Derived.{signingKey, encryptionKey}
@@ -36,11 +37,13 @@ use Rattle.fields.proofs.Laws.Path.{path-back, path-again}
 use Rattle.heartbeats.specs.Heartbeat.{pathsOf, beatRefusal, beatOf, entryRead, beatWire, beatSays, pathSays, noPath, FourByteIds}
 use Rattle.heartbeats.specs.declared.heartbeat.HeartbeatPayload.{HeartbeatPayload}
 use Rattle.heartbeats.proofs.Laws.{refused-entries, taken-entries, beat-back}
-use Rattle.items.specs.Items.{badBeat, itemAt, Turn, walkedTo, keptItem, noItem, itemSays, listedItems}
+use Rattle.items.specs.Items.{isBeat, badBeat, kindOf, pathKind, itemAt, Turn, walkedTo, keptItem, noItem, itemSays, listedItems}
 use Rattle.items.specs.declared.item.Item.{Item}
 use Rattle.items.proofs.Laws.{turn, walk-ends, kept-whole}
-use Rattle.kept_items.specs.Kept.{openBytes}
-use Rattle.composed_items.specs.Composed.{composedWire, lentBack}
+use Rattle.kept_items.specs.Kept.{itemBytes, openBytes}
+use Rattle.composed_items.specs.Composed.{lists, tagOf, composedWire, lentBack}
+use Rattle.composed_items.specs.One.{oneWire, encodedOf}
+use Rattle.composed_items.proofs.Alone.{read-encoded, read-encoded-plain, read-again, one-read, one-composed}
 use Rattle.composed_items.proofs.Again.{written-back}
 use Rattle.packets.specs.Read.{meshOf, meshSays}
 use Rattle.round_trips.specs.Which.{leastFrame, meshNumber}
@@ -213,6 +216,31 @@ walk-by-items-ends ev s = ap itemSays (walk-ends ev s)
 -- bits cleared
 pub items-lent-back : (ev : Bool) (s : List ℕ) → Bytes s → composedWire ev (lentBack ev s) (length (listedItems ev s)) ≡ bytes (openBytes ev s)
 items-lent-back ev s h = written-back ev s h
+
+-- one item that is read is encoded as it stood, tag, length and value, the ignored bits of a heartbeat cleared; of any other item that is its
+-- own bytes
+pub item-read-then-encoded : (ev : Bool) (s : List ℕ) → Bytes s → (at : ℕ) (i : Item) (next : ℕ) → itemSays (itemAt ev s at) ≡ value (keptItem i next)
+    → encodedOf ev i s ≡ bytes (itemBytes (isBeat ev (i .tag)) (i .tag) (runBytes s (i .value)))
+item-read-then-encoded ev s h at i next e = read-encoded ev s h at i next (item-said (itemAt ev s at) i next e)
+
+pub plain-item-is-its-bytes : (ev : Bool) (s : List ℕ) → Bytes s → (at : ℕ) (i : Item) (next : ℕ) → itemSays (itemAt ev s at) ≡ value (keptItem i next)
+    → isBeat ev (i .tag) ≡ false → encodedOf ev i s ≡ bytes (take (next - at) (drop at s))
+plain-item-is-its-bytes ev s h at i next e = read-encoded-plain ev s h at i next (item-said (itemAt ev s at) i next e)
+
+-- and from these bytes alone the same item is read again
+pub item-encoded-then-read : (ev : Bool) (s : List ℕ) → Bytes s → (at : ℕ) (i : Item) (next : ℕ) → itemSays (itemAt ev s at) ≡ value (keptItem i next)
+    → (w : List ℕ) → encodedOf ev i s ≡ bytes w
+    → itemSays (itemAt ev w 0) ≡ value (keptItem (record { kind = i .kind; tag = i .tag; value = runAt 2 (i .value .len) }) (length w))
+item-encoded-then-read ev s h at i next e w f = ap itemSays (read-again ev s h at i next (item-said (itemAt ev s at) i next e) w f)
+
+-- so is one of a kind, a tag and a value; it has the bytes that it has where it is composed, alone, in lists
+pub item-written-then-read : (ev : Bool) (kind tag : ℕ) (v w : List ℕ) → oneWire ev kind tag v ≡ bytes w
+    → itemSays (itemAt ev w 0) ≡ value (keptItem (record { kind = kindOf ev (tagOf kind tag); tag = tagOf kind tag; value = runAt 2 (length v) }) (length w))
+item-written-then-read ev kind tag v w e = ap itemSays (one-read ev kind tag v w e)
+
+pub item-as-composed : (ev : Bool) (kind tag : ℕ) (v : List ℕ) → eqb kind pathKind ≡ false
+    → composedWire ev (lists ((kind ∷ tag ∷ []) ∷ []) ((0 ∷ length v ∷ []) ∷ []) [] [] [] v) 1 ≡ oneWire ev kind tag v
+item-as-composed = one-composed
 
 -- "Heartbeat value: 19, 20, 21"
 pub heartbeat-long : (v : List ℕ) (places : ℕ) → 255 < length v → beatSays (beatOf v places) ≡ number itemLong

@@ -3,7 +3,7 @@
 use Prim.Native.Nat.{ℕ, _+_, _-_, _/_, _%_, _≤_, _<_}
 use native.Mathlib.Omega.{arith}
 use mathlib.Core.Path.{_≡_, refl, sym, ap, _∙_}
-use mathlib.Core.Bool.{Bool, true, false}
+use mathlib.Core.Bool.{Bool, true, false, not}
 use mathlib.Core.List.{List, _++_}
 use lib.Dec.{ltb, eqb}
 use lib.ListN.{length, take, drop, replicate, getD, length-append, length-replicate}
@@ -28,13 +28,14 @@ use Rattle.packets.specs.declared.mesh.Payload.{Payload}
 use Rattle.packets.specs.declared.mesh.Payload.the-variants.{Uplink as AnUplink, Downlink as ADownlink, Event as AnEvent, Command as ACommand}
 use Rattle.packets.specs.declared.mesh.MeshRead.{MeshRead}
 use Rattle.packets.specs.declared.mesh.MeshRead.the-variants as mesh
+use Rattle.packets.specs.declared.mesh.MeshPacket.{MeshPacket}
 use Rattle.packets.specs.declared.any.Packet.the-variants.{Mesh, Lora}
 use Rattle.packets.specs.declared.any.PacketRead.{PacketRead}
 use Rattle.packets.specs.declared.any.PacketRead.the-variants.{Packet as PacketIs, Refused as NoPacket}
 use Rattle.wire.specs.declared.run.Run.{Run}
 use Rattle.dump.proofs.Laws.Decimal.{decimal-most}
 use Rattle.dump.specs.Ascii.{ascii}
-use Rattle.dump.specs.Dump.{decimal, fourText, labelOf, lineOf, payloadText, meshText, withNumber, refusedText, readText, frameText, badHex, lineText}
+use Rattle.dump.specs.Dump.{decimal, fourText, labelOf, lineOf, micText, payloadText, meshText, withNumber, refusedText, readText, frameText, badHex, lineText}
 
 -- ---- parts laid one behind the other
 
@@ -107,10 +108,16 @@ module _ (t : PayloadType) (hops : ℕ) (word : List ℕ) (n relay : ℕ) (tail 
 tail-long : (mic : ℕ) → length (ascii ", mic: " ++ fourText mic) ≡ 15
 tail-long mic = let l = length-append (ascii ", mic: ") (fourText mic) in let f = four-length mic in omega arith
 
-pub mic-tail : (mic : ℕ) (x y : List ℕ) → x ≡ put (replicate 15 0) 0 (ascii ", mic: ") → y ≡ put x 7 (fourText mic) → ascii ", mic: " ++ fourText mic ≡ y
-mic-tail mic x y ex ey =
+pub mic-tail : (has : Bool) (mic : ℕ) (x y : List ℕ) → not has ≡ false → x ≡ put (replicate 15 0) 0 (ascii ", mic: ") → y ≡ put x 7 (fourText mic)
+    → ascii ", mic: " ++ micText has mic ≡ y
+mic-tail true mic x y h ex ey =
     let q = tail-long mic in
     sym (ey ∙ rw ex (two-puts (replicate 15 0) (ascii ", mic: ") (fourText mic) 7 refl (omega arith)) ∙ put-whole (replicate 15 0) (ascii ", mic: " ++ fourText mic) q)
+mic-tail false mic x y h ex ey = absurd (let z : _≡_ {A = ℕ} 0 1 = cc in omega arith)
+
+pub mic-none : (has : Bool) (mic : ℕ) → not has ≡ true → ascii ", mic: " ++ micText has mic ≡ ascii ", mic: "
+mic-none false mic h = refl
+mic-none true mic h = absurd (let z : _≡_ {A = ℕ} 0 1 = cc in omega arith)
 
 -- ---- what was read
 
@@ -156,15 +163,22 @@ line-most t hops word n relay tail h g =
     let c = decimal-most n in
     omega arith
 
-payload-most : (t : PayloadType) (hops mic : ℕ) (p : Payload) → length (payloadText t hops mic p) ≤ 90
-payload-most t hops mic (AnUplink p) = line-most t hops _ _ _ _ (omega arith) (let q = tail-long mic in omega arith)
-payload-most t hops mic (ADownlink p) = line-most t hops _ _ _ _ (omega arith) (let q = tail-long mic in omega arith)
-payload-most t hops mic (AnEvent p) = line-most t hops _ _ _ _ (omega arith) (omega arith)
-payload-most t hops mic (ACommand p) = line-most t hops _ _ _ _ (omega arith) (omega arith)
+tail-most : (has : Bool) (mic : ℕ) → length (ascii ", mic: " ++ micText has mic) ≤ 15
+tail-most true mic = let q = tail-long mic in omega arith
+tail-most false mic = omega arith
+
+payload-most : (t : PayloadType) (hops : ℕ) (has : Bool) (mic : ℕ) (p : Payload) → length (payloadText t hops has mic p) ≤ 90
+payload-most t hops has mic (AnUplink p) = line-most t hops _ _ _ _ (omega arith) (tail-most has mic)
+payload-most t hops has mic (ADownlink p) = line-most t hops _ _ _ _ (omega arith) (tail-most has mic)
+payload-most t hops has mic (AnEvent p) = line-most t hops _ _ _ _ (omega arith) (omega arith)
+payload-most t hops has mic (ACommand p) = line-most t hops _ _ _ _ (omega arith) (omega arith)
+
+pub mesh-text-most : (p : MeshPacket) → length (meshText p) ≤ 90
+unfolding meshText
+mesh-text-most p = payload-most _ _ _ _ (p .payload)
 
 read-most : (r : PacketRead) → length (readText r) ≤ 90
-unfolding meshText
-read-most (PacketIs (Mesh p)) = payload-most _ _ _ (p .payload)
+read-most (PacketIs (Mesh p)) = mesh-text-most p
 read-most (PacketIs (Lora r)) = let b = decimal-most (r .len) in simp length-append (omega arith)
 read-most (NoPacket n) = let b = decimal-most n in simp length-append (omega arith)
 
