@@ -138,7 +138,7 @@ static void agree_frames(void)
     printf("20000 frames of 13 to 255 bytes, edited, validated and refused: as OpenSSL's CMAC has them\n");
 }
 
-/* Sequences of adds beside a list of the last records, which is what document 01 says. */
+/* Sequences of adds beside a list of the last records, which is what the rules say. */
 static void agree_cache(void)
 {
     mesh_record_of last[MESH_CACHE_MOST], r;

@@ -1,5 +1,5 @@
 /* Every exported function of mesh.h at its limits, with lengths and places that do not fit, and the functions on structs with null for every
- * slice. The answers are document 01's numbers, and what a refused call was lent is as it was. Each thing that is lent lies in an allocation of its own and of exactly its size, so that valgrind, or
+ * slice. The answers are 0 and refusals' numbers, and what a refused call was lent is as it was. Each thing that is lent lies in an allocation of its own and of exactly its size, so that valgrind, or
  * AddressSanitizer where the library is built with it, sees a byte read or written beside it. Prints `N checks passed`, or what failed. */
 #include <inttypes.h>
 #include <stdio.h>
@@ -967,7 +967,7 @@ static void items(void) {
     CHECK(do_item(true, five, 7, 0) == 0 && found(MESH_SKIPPED, MESH_ITEM_HEARTBEAT, 0, 2, 5, 7));
     CHECK(do_item(false, five, 7, 0) == 0 && found(MESH_KEPT, MESH_ITEM_PROPRIETARY, 0, 2, 5, 7));
     for (size_t n = 1; n < 8; n++) CHECK(do_item(true, six, n, 0) == 0 && found(MESH_CUT, 0, 0, 0, n, n));
-    /* Example P11 of document 01. */
+    /* Example P11. */
     static const uint8_t p11[] = {1, 2, 0xaa, 0xbb, 0, 5, 1, 2, 3, 4, 5, 2, 0, 3, 9, 0xcc};
     CHECK(do_count(true, p11, sizeof p11) == 0 && counted(2, 1, 6, 7, 3, 0));
     CHECK(do_count(false, p11, sizeof p11) == 0 && counted(3, 0, 13, 0, 3, 0));

@@ -2,7 +2,7 @@
 use std::error::Error;
 use std::fmt;
 
-/// Why a call did nothing: one number of document 01 each. Nothing that was lent to the call has changed. A later version may have more.
+/// Why a call did nothing: one number each, section 3 of docs/RULES.md. Nothing that was lent to the call has changed. A later version may have more.
 #[derive(Clone, Copy, Debug, PartialEq, Eq, Hash, PartialOrd, Ord)]
 #[repr(u8)]
 #[non_exhaustive]
@@ -149,17 +149,17 @@ impl Refusal {
 // end
 
 impl Refusal {
-    /// Document 01's number.
+    /// Its number.
     pub fn number(self) -> u8 {
         self as u8
     }
 
-    /// The refusal of a number, if document 01 has it.
+    /// The refusal of a number, if there is one.
     pub fn from_number(number: u8) -> Option<Refusal> {
         Refusal::ALL.iter().copied().find(|r| r.number() == number)
     }
 
-    /// The refusal that the library answered. A number that document 01 lacks would be a fault of the library; so that no caller panics or
+    /// The refusal that the library answered. A number that is none would be a fault of the library; so that no caller panics or
     /// takes it for a success, it is told as [`Refusal::Outside`].
     pub(crate) fn of(number: u8) -> Refusal {
         Refusal::from_number(number).unwrap_or(Refusal::Outside)

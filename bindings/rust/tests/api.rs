@@ -48,7 +48,7 @@ fn command(commands: Content<'_, Command>) -> MeshPacket<'_> {
 
 /// What every call that lays a packet out answers of one that is refused; none of them changes the packet or an output.
 fn refused(packet: &MeshPacket, number: u8) {
-    let refusal = Refusal::from_number(number).expect("a number of document 01");
+    let refusal = Refusal::from_number(number).expect("the number of a refusal");
     let mut out = [BEFORE; 8200];
     assert_eq!(packet.write(&mut out), Err(refusal));
     assert_eq!(packet.to_vec(), Err(refusal));

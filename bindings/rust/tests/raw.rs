@@ -1,5 +1,5 @@
 //! The C face itself, as `src/sys.rs` declares it: every exported function at its limits, with lengths and places that do not fit. The
-//! answers are document 01's numbers, and what a refused call was lent is as it was.
+//! answers are 0 and refusals' numbers, and what a refused call was lent is as it was.
 #[path = "../src/sys.rs"]
 mod sys;
 

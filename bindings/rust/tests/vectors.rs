@@ -1,4 +1,4 @@
-//! Document 01's twelve examples, and the published vectors of FIPS 197 and RFC 4493.
+//! The twelve worked examples of docs/RULES.md, and the published vectors of FIPS 197 and RFC 4493.
 mod common;
 
 use common::{block, hex};

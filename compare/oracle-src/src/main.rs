@@ -30,7 +30,7 @@ use std::io::{Cursor, Read, Write};
 use std::panic::{self, AssertUnwindSafe};
 use std::process::exit;
 
-/// Document 01 goes by a Rust whose failed `read_exact` leaves the cursor at the end.
+/// The rules go by a Rust whose failed `read_exact` leaves the cursor at the end.
 fn cursor_moves() -> bool {
     let bytes = [0u8; 3];
     let mut cur = Cursor::new(&bytes[..]);
@@ -70,7 +70,7 @@ fn give(out: &mut Vec<u8>) {
 
 fn main() {
     if !cursor_moves() {
-        eprintln!("oracle: this Rust release leaves the cursor in place when read_exact fails; document 01 goes by a newer one");
+        eprintln!("oracle: this Rust release leaves the cursor in place when read_exact fails; the rules go by a newer one");
         exit(3);
     }
     panic::set_hook(Box::new(|_| {}));

@@ -1,4 +1,4 @@
--- What a call answers, in document 01's terms, and what a writer answers and leaves. Assumes nothing.
+-- What a call answers, by values or a refusal's number, and what a writer answers and leaves. Assumes nothing.
 use Prim.Native.Nat.{ℕ}
 use mathlib.Core.List.{List, _++_}
 use lib.Dec.{ltb, eqb}
@@ -10,7 +10,7 @@ use Rattle.base.specs.declared.Written.the-variants.{Bytes, Refused}
 use Rattle.base.specs.declared.Checked.{Checked}
 use Rattle.base.specs.declared.Checked.the-variants as checked
 
--- the values, or document 01's number of the refusal
+-- the values, or the refusal's number
 pub data Answer (A : Type 0) : Type 0 where
   value : A → Answer A
   number : ℕ → Answer A

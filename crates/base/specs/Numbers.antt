@@ -1,4 +1,4 @@
--- Document 01's refusal numbers and limits, under the names of `Refusal` and `Limit` in src/. Assumes nothing.
+-- The refusal numbers and limits of docs/RULES.md, under the names of `Refusal` and `Limit` in src/. Assumes nothing.
 use Prim.Native.Nat.{ℕ}
 
 abbrev pub frameEmpty : ℕ

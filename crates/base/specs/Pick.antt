@@ -1,4 +1,4 @@
--- A choice by a test, at any type. A definition of what a call answers is a chain `pick test refusal rest`, in document 01's order.
+-- A choice by a test, at any type. A definition of what a call answers is a chain `pick test refusal rest`, in the order of section 4 of docs/RULES.md.
 -- Assumes nothing.
 use mathlib.Core.Bool.{Bool, true, false}
 

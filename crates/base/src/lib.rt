@@ -1,9 +1,9 @@
-// What every layer shares: the refusal numbers and the limits of document 01, each named here and nowhere else, and what a call into a
+// What every layer shares: the refusal numbers and the limits, each named here and nowhere else, and what a call into a
 // lent buffer answers.
 ghost use mathlib.Core.Path.{_≡_};
 ghost use Prim.Native.Nat.{min};
 
-// Document 01's refusal numbers. A refusal is passed up unchanged.
+// The refusal numbers, section 3 of docs/RULES.md. A refusal is passed up unchanged.
 pub struct Refusal;
 
 impl Refusal {

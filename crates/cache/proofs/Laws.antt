@@ -1,5 +1,5 @@
 -- Laws of the cache: two records are the same where they are equal; the list holds the last n records that were added; a ring that was made
--- by `new` and `add` answers as the list does; and document 01's example P12. Assumes nothing.
+-- by `new` and `add` answers as the list does; and example P12. Assumes nothing.
 use mathlib.Core.Path.{_≡_, refl, sym, ap, subst, _∙_}
 use mathlib.Core.Bool.{Bool, true, false, _&&_, _||_, or-false, or-true, false≢true}
 use mathlib.Core.List.{List, [], _∷_, _++_, append-nil, append-assoc}

@@ -22,7 +22,7 @@ use Rattle.cache.specs.declared.ring.CacheAnswer.the-variants.{New, Seen
 abbrev pub rec : PayloadType → ℕ → ℕ → ℕ → PayloadCache
 rec t u s i = record { «p_type» = t; «uplink_id» = u; timestamp = s; «relay_id» = i }
 
--- the id is 0 for events and commands, the timestamp 0 for uplinks and downlinks
+-- 12.1: an event and a command have no id, an uplink and a downlink no timestamp
 abbrev pub recordBy : PayloadType → Payload → PayloadCache
 recordBy t (payload.Uplink v) = rec t (v .metadata .«uplink_id») 0 (v .«relay_id»)
 recordBy t (payload.Downlink v) = rec t (v .metadata .«uplink_id») 0 (v .«relay_id»)
@@ -61,7 +61,7 @@ unpackOf w = rec (typeByCode (getD w 0 0 / 65536 % 4)) (getD w 0 0 % 65536) (get
 unfoldable pub push : ℕ → List PayloadCache → PayloadCache → List PayloadCache
 push n l r = pick (ltb (length l) n) l (drop 1 l) ++ (r ∷ [])
 
--- the answer, and the list from now on: a hit does not move a record
+-- the answer, and the list from now on: where the record is there, the list stays
 unfoldable pub step : ℕ → List PayloadCache → PayloadCache → CacheAnswer × List PayloadCache
 step n l r = pick (has l r) (Seen, l) (New, push n l r)
 
@@ -70,7 +70,7 @@ unfoldable pub answers : ℕ → List PayloadCache → List PayloadCache → Lis
 answers n l [] = []
 answers n l (r ∷ rs) = step n l r .0 ∷ answers n (step n l r .1) rs
 
--- the same in document 01's words, over all records that were ever added: a hit is one of the last n of them
+-- the same as 12.3 has it, over all records that were ever added: a hit is one of the last n of them
 abbrev pub lastOf : ℕ → List PayloadCache → List PayloadCache
 lastOf n l = drop (length l - n) l
 
@@ -78,7 +78,7 @@ unfoldable pub answersLast : ℕ → List PayloadCache → List PayloadCache →
 answersLast n all [] = []
 answersLast n all (r ∷ rs) = pick (has (lastOf n all) r) (Seen ∷ answersLast n all rs) (New ∷ answersLast n (all ++ (r ∷ [])) rs)
 
--- ---- document 01's number, or the value, of each answer: yes is a new record
+-- ---- the refusal's number, or the value, of each answer: yes is a new record
 
 abbrev pub addSays : CacheAnswer → Answer Bool
 addSays New = value true

@@ -16,7 +16,7 @@ use Rattle.contents.specs.declared.content.Held.the-variants.{Frame as I
 use Rattle.contents.specs.declared.content.Content.{Content}
 use Rattle.contents.specs.declared.content.Content.the-variants.{Empty, Sealed, Open, Items}
 
--- no bytes after the relay id means no items
+-- nothing behind the relay id is no content
 abbrev pub contentOf : ℕ → ℕ → Content
 contentOf start n = pick (eqb n 0) Empty (Sealed (record { start = start; len = n }))
 

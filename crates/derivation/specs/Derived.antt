@@ -4,7 +4,7 @@ use mathlib.Core.List.{List, _∷_}
 use lib.ListN.{replicate}
 use Rattle.fips197.specs.Aes.{aes}
 
--- document 01: E of 16 zeros, and E of 01 and 15 zeros, under the root key
+-- 9.6 and 9.7 of the rules, E the cipher under the root key
 unfoldable pub signingKey : List ℕ → List ℕ
 signingKey root = aes root (replicate 16 0)
 

@@ -1,4 +1,4 @@
--- Document 01's example of the dump, its four lines and what is printed for each, of the definitions, as one statement; and more lines. Assumes
+-- The example of 13.11 of the rules, its four lines and what is printed for each, of the definitions, as one statement; and more lines. Assumes
 -- nothing.
 use mathlib.Core.Path.{_≡_, refl}
 use Rattle.wire.specs.Number.{beMore, beOf, beBytes}

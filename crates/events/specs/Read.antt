@@ -37,7 +37,7 @@ eventAt at b = asEvent (stampedAt at b)
 unfoldable pub commandAt : ℕ → List ℕ → CommandRead
 commandAt at b = asCommand (stampedAt at b)
 
--- document 01's number, or the value
+-- the refusal's number, or the value
 abbrev pub eventSays : EventRead → Answer EventPayload
 eventSays (AnEvent p) = value p
 eventSays (NoEvent n) = number n

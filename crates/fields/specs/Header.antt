@@ -53,7 +53,7 @@ headerByte h =
     (pick (ltb hopsMost (h .«hop_count»)) (NoByte hopsMany)
     (Byte (224 + codeOf (h .«payload_type») * 8 + (h .«hop_count» - 1))))
 
--- document 01's number, or the value, of each answer
+-- the refusal's number, or the value, of each answer
 abbrev pub typeSays : TypeRead → Answer PayloadType
 typeSays (Kind t) = value t
 typeSays (NoKind n) = number n

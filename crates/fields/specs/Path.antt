@@ -34,7 +34,7 @@ pathBytes p = pathAnswer (pathWire p)
 abbrev pub entryByte : ℕ → ℕ → ℕ
 entryByte i b = pick (eqb (i % entryBytes) 5) (b % 64) b
 
--- document 01's number of the refusal, 0 for none; and the six bytes
+-- the refusal's number, 0 for none; and the six bytes
 unfoldable pub badEntry : RelayPath → ℕ
 badEntry p = frameNumber (pathWire p)
 

@@ -1,4 +1,4 @@
--- Rssi is minus the byte; snr the low six bits as a signed number, -32 to 31. `pos n` is n, and `negsuc n` is -(n + 1). Assumes nothing.
+-- The bytes of rssi and snr, 5.6 and 5.7 of the rules. `pos n` is n, and `negsuc n` is -(n + 1). Assumes nothing.
 use Prim.Native.Nat.{ℕ, zero, suc, _+_, _-_, _%_}
 use lib.IntN.{ℤ, pos, negsuc, negℤ}
 use lib.Dec.{ltb}

@@ -1,4 +1,4 @@
-// Calls the forms that document 01 names and that no other program reaches: the cache's `add` in place, a heartbeat's path into and from a
+// Calls the forms that the rules name and that no other program reaches: the cache's `add` in place, a heartbeat's path into and from a
 // lent list of records, and an item's value as a part of what holds it. And what the layers above have no use for: an item alone, a packet's
 // record and its plain struct, the least and largest values, numbers of two bytes. It prints a line for each; the gate compares with the file
 // stdout.

@@ -76,7 +76,7 @@ noPath = record { «relay_id» = 0; rssi = pos 0; snr = pos 0 }
 abbrev pub FourByteIds : List RelayPath → Type 0
 FourByteIds ps = (i : ℕ) → getD ps i noPath .«relay_id» < 4294967296
 
--- ---- document 01's number, or the value, of each answer
+-- ---- the refusal's number, or the value, of each answer
 
 abbrev pub beatSays : HeartbeatRead → Answer HeartbeatPayload
 beatSays (Heartbeat h) = value h

@@ -35,7 +35,7 @@ each-lt f h i (x ∷ s) b zero = xor-lt 8 x (f i) (b 0) (h i)
 each-lt f h i (x ∷ s) b (suc k) = each-lt f h (suc i) s (λ j. b (suc j)) k
 
 module _ (E : List ℕ → List ℕ) (A : ℕ → List ℕ) where
-  -- document 01's block 1 has number 1, block 256 has 0, and block 257 is block 1 again
+  -- 8.2, whose first block is 0 here: its number is 1, that of block 255 is 0, and block 256 is as block 0
   pub block-1 : streamBlock E A 0 ≡ E (A 1)
   unfolding streamBlock
   block-1 = refl

@@ -24,7 +24,7 @@ keyRead s = record { answer = Accepted; key = keyOf s }
 abbrev pub keyRefused : ℕ → KeyRead
 keyRefused n = record { answer = Refused n; key = nullKey }
 
--- the key, or document 01's number
+-- the key, or the refusal's number
 abbrev pub keySays : KeyRead → Answer Aes128Key
 keySays r = checkedSays (r .answer) (r .key)
 

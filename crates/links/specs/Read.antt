@@ -53,7 +53,7 @@ heard m h =
       delay = m .delay;
     }
 
--- document 01's number, or the value
+-- the refusal's number, or the value
 abbrev pub uplinkSays : UplinkRead → Answer UplinkPayload
 uplinkSays (AnUplink p) = value p
 uplinkSays (NoUplink n) = number n

@@ -1,4 +1,4 @@
--- Answers for C: 0 or document 01's number of the refusal (`numberIn`), and where values are stored all as it was when it refuses (`leftBy`).
+-- Answers for C: 0 or the refusal's number (`numberIn`), and where values are stored all as it was when it refuses (`leftBy`).
 -- Here: what is stored of each value, and packets as numbers. Assumes nothing.
 use Prim.Native.Nat.{ℕ}
 use mathlib.Core.Bool.{Bool, true}

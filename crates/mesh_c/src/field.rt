@@ -116,7 +116,7 @@ pub extern "C" fn mesh_uplink_metadata_read(
     *snr = ratio;
 }
 
-// 0, or 8 to 13 in document 01's order.
+// 0, or 8 to 13 in their order.
 #[no_mangle]
 pub extern "C" fn mesh_uplink_metadata_write(
     uplink_id: u16,
@@ -163,7 +163,7 @@ pub extern "C" fn mesh_downlink_metadata_read(b: &[u8; 6], numbers: &mut [u64; 5
     ];
 }
 
-// 0, or 8, 9, 14 to 18 in document 01's order.
+// 0, or 8, 9, 14 to 18 in their order.
 #[no_mangle]
 pub extern "C" fn mesh_downlink_metadata_write(
     uplink_id: u16,

@@ -96,7 +96,7 @@ pub extern "C" fn mesh_read_body(
 
 // ---- writing
 
-// 29, then as document 01's writing order; the frame's length in `length`.
+// 29, then in the order of writing; the frame's length in `length`.
 #[no_mangle]
 pub extern "C" fn mesh_write<'a>(
     numbers: &PacketNumbers,

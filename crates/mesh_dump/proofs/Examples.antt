@@ -1,4 +1,4 @@
--- Document 01's example of the dump, its whole input and its whole output, of the definitions; and inputs at the edges. Assumes nothing.
+-- The example of 13.11 of the rules, its whole input and its whole output, of the definitions; and inputs at the edges. Assumes nothing.
 use mathlib.Core.Path.{_≡_, refl}
 use mathlib.Core.List.{[]}
 use Rattle.base.specs.Lists.{joined}

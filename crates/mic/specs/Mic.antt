@@ -1,4 +1,4 @@
--- Signing and validating. The MIC is the first four bytes of the CMAC over header byte and body as the writer writes them, as one number.
+-- Signing and validating. The MIC is four bytes of a CMAC, as one number, over what would be written before it (10.1 of the rules).
 -- Signing refuses in the writing order without 27 and 21: 29, 6, 7, 45, body fields, 19, 20, 5. Validating: 29, 27, then as signing. Over
 -- any block cipher E. Assumes nothing.
 use Prim.Native.Nat.{ℕ}
@@ -53,7 +53,7 @@ validateMic E l p =
     (pick (p .«has_mic») (comparedBy E (p .mic) (signedOf l p)) (Refused micMissing))
     (Refused (kindsIn l p))
 
--- document 01's number, or whether it is valid
+-- the refusal's number, or whether it is valid
 abbrev pub validSays : Validated → Answer Bool
 validSays Valid = value true
 validSays Invalid = value false

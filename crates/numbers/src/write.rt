@@ -73,7 +73,7 @@ fn write_any<'a>(
     }
 }
 
-// 29, then as document 01's writing order. An uplink is written straight from its numbers: as a packet it would be built in memory and taken
+// 29, then in the order of writing. An uplink is written straight from its numbers: as a packet it would be built in memory and taken
 // apart again.
 pub fn write_numbers<'a>(
     numbers: &PacketNumbers,

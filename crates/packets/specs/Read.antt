@@ -1,4 +1,4 @@
--- Frames read, with the refusals of document 01 in their order: 1, 5, 2, 3, 4. Assumes nothing.
+-- Frames read, with the refusals in their order, 4.1 of the rules. Assumes nothing.
 use Prim.Native.Nat.{ℕ, _-_, _/_}
 use mathlib.Core.Bool.{true}
 use mathlib.Core.List.{List}
@@ -91,7 +91,7 @@ packetOf s =
 abbrev pub carrying : MeshPacket → Payload → MeshPacket
 carrying p q = record { mhdr = p .mhdr; payload = q; «has_mic» = p .«has_mic»; mic = p .mic }
 
--- document 01's number, or the value
+-- the refusal's number, or the value
 abbrev pub meshSays : MeshRead → Answer MeshPacket
 meshSays (Mesh p) = value p
 meshSays (Refused n) = number n

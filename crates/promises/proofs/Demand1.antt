@@ -1,5 +1,5 @@
--- Demand 1: "A refusal carries its number from document 01 and changes no byte or record it was lent." Of every call that is lent something
--- to write into: where it answers a number, what it was lent is as before; and after success output beyond the written length is as before.
+-- Demand 1, and 2.2 and 2.3 of the rules. Of every call that is lent something to write into: where it answers a number, what it was lent is as
+-- before; and where it accepts, what lies behind the bytes that it wrote.
 -- (That every call ends and does nothing undefined is what a proved function is; that public calls check for themselves is that none has a
 -- `requires`.) Assumes nothing.
 use Prim.Native.Nat.{ℕ, _≤_}

@@ -58,7 +58,7 @@ use Rattle.promises.proofs.Refusals.{zero-accepts, accepts-zero, says-n
 
 -- ---- reading
 
--- "Reading: 1, 5, 2, 3, 4", each exactly when document 01 says, by `meshNumber`; 0 where the frame is read
+-- 4.1, each number exactly when section 3 says, by `meshNumber`; 0 where the frame is read
 pub mesh-reader : (s : List ℕ) → numberIn (meshSays (meshOf s)) ≡ meshNumber s
 mesh-reader = which
 
@@ -70,7 +70,7 @@ mesh-reader-reads s =
 pub mesh-reader-refuses : (s : List ℕ) (n : ℕ) → meshNumber s ≡ suc n → meshSays (meshOf s) ≡ number (suc n)
 mesh-reader-refuses s n e = says-number n (meshSays (meshOf s)) (mesh-reader s ∙ e)
 
--- "The packet reader takes any other top bits as a LoRa frame, so it never gives 3": 1, 5, then 2 and 4 of a mesh frame
+-- 4.2: 1, 5, then 2 and 4 of a mesh frame
 through : (r : MeshRead) → numberIn (packetSays (ofMesh r)) ≡ numberIn (meshSays r)
 through (Mesh p) = refl
 through (Refused n) = refl
@@ -152,12 +152,12 @@ cmac-is-rfc4493 key ps k h = pieces (enciphered (prepared key)) ps ∙ tag-same 
 
 -- ---- sealing
 
--- "The block number starts at 1 in one byte and wraps: block 256 uses 0, block 257 repeats block 1" (counted from 0 here)
+-- 8.1, 8.2 (blocks are counted from 0 here)
 pub key-blocks : (E : List ℕ → List ℕ) (A : ℕ → List ℕ)
     → (streamBlock E A 0 ≡ E (A 1)) × (streamBlock E A 255 ≡ E (A 0)) × ((i : ℕ) → streamBlock E A (i + 256) ≡ streamBlock E A i)
 key-blocks E A = (block-1 E A, block-256 E A, repeats E A)
 
--- "Sealing twice gives the clear bytes, still marked sealed"
+-- 8.4
 pub sealed-twice : (key : List ℕ) (ev : Bool) (relay time : ℕ) (s w : List ℕ) → sealedOf key ev relay time s ≡ bytes w → sealedOf key ev relay time w ≡ bytes s
 sealed-twice = seal-twice
 
@@ -173,7 +173,7 @@ module _ (key : List ℕ) (l : Lent) (w rest : List ℕ) (x : Lists) (k : List �
 
 -- ---- items
 
--- "the three byte counts sum to its length"
+-- 7.7: the bytes of kept items, of skipped items and of the cut tail make up the payload
 pub counts-sum : (ev : Bool) (s : List ℕ)
     → openingOf ev s .«kept_bytes» + openingOf ev s .«skipped_bytes» + openingOf ev s .«cut_bytes» ≡ length s
 unfolding openingOf
@@ -185,7 +185,7 @@ counts-sum ev s = bytes-sum ev s
 pub same-record : (a b : PayloadCache) → (sameRecord a b ≡ true → a ≡ b) × (a ≡ b → sameRecord a b ≡ true)
 same-record = same-is
 
--- "The cache answers no exactly if the value equals one of the last size values added": over every sequence of adds to a new cache
+-- 12.3, over every sequence of adds to a new cache
 pub cache-answers : (n : ℕ) → 1 ≤ n → n ≤ 64 → (rs : List PayloadCache) → map addSays (ringAnswers (newOf n .cache) rs) ≡ map addSays (answersLast n [] rs)
 cache-answers n h k rs = ap (map addSays) (adds-list n h k rs ∙ last-added n h rs)
 

@@ -67,7 +67,7 @@ edit-is-afresh s p e small said least most =
       },
     )
 
--- "Hop edit: the reading order, then 6, 7": any other edit is refused with the reader's number, or with the count's
+-- 4.16: any other edit is refused with the reader's number, or with the count's
 module _ (s : List ℕ) (e : Edit) where
   abbrev says : Answer (List ℕ)
   says = checkedSays (checkedOf (edited s e)) (after s e)

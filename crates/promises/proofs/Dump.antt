@@ -38,7 +38,7 @@ use Rattle.dump.proofs.Laws.Decimal.{decimal-back}
 use Rattle.dump.proofs.Laws.Text.{text-of, mesh-text-most, hex-line, line-bad, line-long, line-text-most}
 use Rattle.promises.proofs.Demand2.{packet-reader}
 
--- ---- document 01's example, its four lines and what is printed for each
+-- ---- the example of 13.11, its four lines and what is printed for each
 
 pub four-lines :
     (lineText (ascii "e012355007020a0b0c0d11223344") ≡ ascii "[Uplink hop_count: 1, uplink_id: 291, relay_id: 0a0b0c0d, mic: 11223344]")
@@ -68,12 +68,12 @@ pub downlink-without-mic : (p : MeshPacket) (u : DownlinkPayload) → p .payload
 unfolding meshText
 downlink-without-mic p u q e = rw (q, e) refl
 
--- "`lora` gives the byte count"
+-- 13.8, of a LoRa frame
 pub lora-counts-bytes : (s : List ℕ) → 1 ≤ length s → length s ≤ 8192 → (getD s 0 0 / 32 ≡ 7 → ⊥) → frameText s ≡ ascii "lora " ++ decimal (length s)
 unfolding frameText packetOf
 lora-counts-bytes s l m h = simp (ne-eqb (length s) 0 (λ e. omega arith), le-ltb 8192 (length s) m, ne-eqb (getD s 0 0 / 32) 7 h)
 
--- "`refused` the number": the one that the packet reader gives, and which that is
+-- 13.8, of a refusal: the number is the one that the packet reader gives, and which that is
 pub refused-says-the-number : (s : List ℕ) (n : ℕ) → packetSays (packetOf s) ≡ number n → (frameText s ≡ ascii "refused " ++ decimal n) × (n ≡ packetNumber s)
 refused-says-the-number s n e = (by (packetOf s) refl e, ap numberIn (sym e) ∙ packet-reader s)
   where
@@ -127,11 +127,11 @@ numbers-read-back = decimal-back
 
 -- ---- a line of hex
 
--- "a blank line is refused with 1"
+-- 13.5, of a line of nothing
 pub blank-line : lineText [] ≡ ascii "refused 1"
 blank-line = examples.more-lines .0
 
--- "30 precedes the packet reader": whatever else such a line holds, and however long it is
+-- 13.5: 30 comes first, whatever else such a line holds, and however long it is
 pub bad-hex-is-30 : (l : List ℕ) → badHex l ≡ true → lineText l ≡ ascii "refused 30"
 unfolding decimal lastDigits
 bad-hex-is-30 l b = line-bad l b
@@ -168,7 +168,7 @@ long-is-5 l b h = line-long l b (omega arith)
 pub hex-has-the-frames-text : (s : List ℕ) → Bytes s → lineText (hexText s) ≡ frameText s
 hex-has-the-frames-text = hex-line
 
--- "Hex is read in either case": A to F in lower case change nothing
+-- 13.3: A to F in lower case change nothing
 same-nibble : (b : ℕ) → nibbleOf (lower b) ≡ nibbleOf b
 unfolding nibbleOf
 same-nibble b = by (ltb b 65) (ltb b 71) refl refl

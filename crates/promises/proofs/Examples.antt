@@ -1,4 +1,4 @@
--- Document 01's twelve examples, of the definitions, as one statement. Numbers are in hexadecimal where the document's are. Assumes nothing.
+-- The twelve worked examples of docs/RULES.md, of the definitions, as one statement. Assumes nothing.
 use Prim.Native.Nat.{ℕ}
 use mathlib.Core.Bool.{Bool, true, false}
 use mathlib.Core.Path.{_≡_, refl, sym, ap, _∙_}
@@ -49,18 +49,7 @@ module _ (A B C : PayloadCache) (ab : A ≡ B → ⊥) (ac : A ≡ C → ⊥) (b
   p12 : map addSays (ringAnswers (newOf 2 .cache) (A ∷ B ∷ A ∷ C ∷ A ∷ B ∷ [])) ≡ value true ∷ value true ∷ value false ∷ value true ∷ value true ∷ value true ∷ []
   p12 = ap (map addSays) (adds-list 2 (omega arith) (omega arith) (A ∷ B ∷ A ∷ C ∷ A ∷ B ∷ []) ∙ listed)
 
--- P1 12 35 50 07 02: id 291, dr 5, rssi -80, snr 7, channel 2
--- P2 ff ff ff 20 ff: 4095, 15, -255, -32, 255
--- P3 snr byte ff: -1, written 3f
--- P4 868,100,000: 84 76 28
--- P5 2,400,000,001: b7 1b 00, read as 2,400,000,000
--- P6 1,200,000,000: also b7 1b 00
--- P7 1,677,721,500: ff ff ff, read as 3,355,443,000
--- P8 1,677,721,650: 17, though 18 fits too
--- P9 header ff: command, 8 hops
--- P10 header df: 3
--- P11 event items: kept (1, aa bb) and (2, nothing); bytes 4+2 kept, 7 skipped, 3 cut; as a command three are kept
--- P12 cache of 2, adding A B A C A B, which are any three records: yes, yes, no, yes, yes, yes
+-- P1 to P12, in their order: 14.1 to 14.12 of the rules
 pub twelve :
     (upOf (0x12 ∷ 0x35 ∷ 0x50 ∷ 0x07 ∷ 0x02 ∷ []) ≡ record { «uplink_id» = 291; dr = 5; rssi = negsuc 79; snr = pos 7; channel = 2 })
     × (upOf (0xff ∷ 0xff ∷ 0xff ∷ 0x20 ∷ 0xff ∷ []) ≡ record { «uplink_id» = 4095; dr = 15; rssi = negsuc 254; snr = negsuc 31; channel = 255 })

@@ -1,4 +1,4 @@
--- Document 01's rules on fields, keys, items and least lengths, each beside its sentence. Assumes nothing.
+-- What the rules say of fields, keys, items and least lengths, by their numbers in docs/RULES.md. Assumes nothing.
 use Prim.Native.Nat.{ℕ, zero, suc, _+_, _-_, _*_, _/_, _%_, _≤_, _<_}
 use native.Mathlib.Omega.{arith}
 use mathlib.Core.Bool.{Bool, true, false, not}
@@ -54,12 +54,12 @@ use Rattle.promises.proofs.Demand2.{mesh-reader-reads, mesh-reader-refu
 
 -- ---- the header byte
 
--- "Header byte: 111, two bits of type, three bits of hop count minus 1"
+-- 5.3: the header byte
 pub header-byte : (t : PayloadType) (n : ℕ) → 1 ≤ n → n ≤ 8 → byteSays (headerByte (record { «payload_type» = t; «hop_count» = n })) ≡ value (224 + codeOf t * 8 + (n - 1))
 unfolding headerByte
 header-byte t n l m = simp (le-ltb n 1 l, le-ltb 8 n m)
 
--- 6, 7: hop count 0; over 8
+-- 3.6, 3.7
 pub hop-count-none : (t : PayloadType) → byteSays (headerByte (record { «payload_type» = t; «hop_count» = 0 })) ≡ number hopsNone
 unfolding headerByte
 hop-count-none t = refl
@@ -68,7 +68,7 @@ pub hop-count-many : (t : PayloadType) (n : ℕ) → 8 < n → byteSays (headerB
 unfolding headerByte
 hop-count-many t n l = let k : 1 ≤ n = omega arith in simp (le-ltb n 1 k, lt-ltb 8 n l)
 
--- written and read back, read and written again; 3 where the top three bits are not 111
+-- written and read back, read and written again; 3.3
 pub header-written-then-read : (h : MHDR) (b : ℕ) → byteSays (headerByte h) ≡ value b → headerSays (headerOf b) ≡ value h
 header-written-then-read h b e = ap headerSays (header-back h b (byte-said (headerByte h) b e))
 
@@ -78,7 +78,7 @@ header-read-then-written b l h e = ap byteSays (header-again b l h (header-said 
 pub header-not-mesh : (b : ℕ) → (b / 32 ≡ 7 → ⊥) → headerSays (headerOf b) ≡ number notMesh
 header-not-mesh b h = ap headerSays (not-marked b h)
 
--- 29: type code over 3; each type's code reads back as it
+-- 3.29; each type's code reads back as it
 pub type-code-large : (n : ℕ) → 3 < n → typeSays (typeRead n) ≡ number typeLarge
 unfolding typeRead
 type-code-large n l = simp (ne-eqb n 0 (λ z. omega arith), ne-eqb n 1 (λ z. omega arith), ne-eqb n 2 (λ z. omega arith), ne-eqb n 3 (λ z. omega arith))
@@ -88,7 +88,7 @@ type-code-read t = ap typeSays (type-back t)
 
 -- ---- rssi, snr, frequency
 
--- "Rssi is minus the byte"
+-- 5.6
 pub rssi-is-minus-the-byte : (b : ℕ) → b < 256 → (rssiOf b ≡ negℤ (pos b)) × (signalSays (rssiByte (rssiOf b)) ≡ value b)
 unfolding rssiOf
 rssi-is-minus-the-byte b h = (refl, ap signalSays (rssi-again b h))
@@ -96,14 +96,14 @@ rssi-is-minus-the-byte b h = (refl, ap signalSays (rssi-again b h))
 pub rssi-written-then-read : (x : ℤ) (b : ℕ) → signalSays (rssiByte x) ≡ value b → rssiOf b ≡ x
 rssi-written-then-read x b e = rssi-back x b (signal-said (rssiByte x) b e)
 
--- "Snr is the low six bits as a signed number; the top two bits are ignored and written as 0"
+-- 5.7
 pub snr-read-then-written : (b : ℕ) → b < 256 → signalSays (snrByte (snrOf b)) ≡ value (b % 64)
 snr-read-then-written b h = ap signalSays (snr-again b h)
 
 pub snr-written-then-read : (x : ℤ) (b : ℕ) → signalSays (snrByte x) ≡ value b → snrOf b ≡ x
 snr-written-then-read x b e = snr-back x b (signal-said (snrByte x) b e)
 
--- "Then 17 if the value divided by 100 is 2^24 or more, then 18": of a frequency f below 2.4 GHz, and from there up of its half
+-- 5.12: of a frequency f below 2.4 GHz, and from there up of its half
 pub frequency-too-large : (f : ℕ) → 16777215 < halvedOf f / 100 → stepsSays (stepsOf f) ≡ number frequencyLarge
 unfolding stepsOf
 frequency-too-large f h = simp (lt-ltb 16777215 (halvedOf f / 100) h)
@@ -119,7 +119,7 @@ frequency-written-within f n e = written-within f n (steps-said (stepsOf f) n e)
 pub frequency-ends-written : (stepsSays (stepsOf hertzLeast) ≡ value 0) × (stepsSays (stepsOf hertzWritten) ≡ value stepsMost)
 frequency-ends-written = (ap stepsSays (both-written .0), ap stepsSays (both-written .1))
 
--- three bytes of frequency, read and written, are the same bytes; 28: not 3 bytes
+-- three bytes of frequency, read and written, are the same bytes; 3.28
 pub frequency-read-then-written : (a b c : ℕ) → a < 256 → b < 256 → c < 256 → freqWire (hertzOf a b c) ≡ bytes (a ∷ b ∷ c ∷ [])
 frequency-read-then-written = freq-again
 
@@ -147,9 +147,9 @@ path-entry-read-then-written = path-again
 pub path-entry-written-then-read : (p : RelayPath) (w : List ℕ) → p .«relay_id» < 4294967296 → pathWire p ≡ bytes w → pathOf w ≡ p
 path-entry-written-then-read p w h e = path-back p w h e .2
 
--- ---- least frame lengths
+-- ---- the shortest frames
 
--- "uplink 14, downlink 15, event and command 13; one byte less gives 4": of a frame of 5 to 8,192 bytes whose first byte begins with 111
+-- 5.10: of a frame of 5 to 8,192 bytes whose first byte begins with 111
 abbrev isMesh : List ℕ → Type 0
 isMesh s = (5 ≤ length s) × (length s ≤ 8192) × (getD s 0 0 / 32 ≡ 7)
 
@@ -171,7 +171,7 @@ one-byte-less s m l =
 
 -- ---- keys
 
--- 25, 26: "Key text: length before digits"
+-- 3.25, 3.26, in the order of 4.17
 pub key-not-sixteen : (s : List ℕ) → (length s ≡ 16 → ⊥) → keySays (keyFromSlice s) ≡ number keyLength
 unfolding keyFromSlice
 key-not-sixteen s h = simp (ne-eqb (length s) 16 h)
@@ -191,15 +191,14 @@ key-text-read s h e = simp (eq-eqb (length s) 32 h, e)
 pub key-written-then-read : (k : List ℕ) → Block k → keySays (keyFromText (hexText k)) ≡ value (keyOf k)
 key-written-then-read k b = ap keySays (text-back k b)
 
--- "Signing key: E of 16 zeros under the root key. Encryption key: E of 01 and 15 zeros"
+-- 9.6, 9.7
 pub derived-keys : (root : List ℕ) → (signingKey root ≡ aes root (replicate 16 0)) × (encryptionKey root ≡ aes root (1 ∷ replicate 15 0))
 unfolding signingKey encryptionKey
 derived-keys root = (refl, refl)
 
 -- ---- items and heartbeats
 
--- "An item reader answers one item at a time: kept, skipped, cut, or none from the end on": what it answers at a place, as `Turn` says, is
--- the first of the payload's pieces from there, and where the next begins
+-- 7.9: what the item reader answers at a place, as `Turn` says, is the first of the payload's pieces from there, and where the next begins
 pub one-item-at-a-time : (ev : Bool) (s : List ℕ) (at : ℕ) → Turn ev s at (itemAt ev s at)
 one-item-at-a-time ev s at = turn ev s at (itemAt ev s at) refl
 
@@ -242,7 +241,7 @@ pub item-as-composed : (ev : Bool) (kind tag : ℕ) (v : List ℕ) → eqb kind 
     → composedWire ev (lists ((kind ∷ tag ∷ []) ∷ []) ((0 ∷ length v ∷ []) ∷ []) [] [] [] v) 1 ≡ oneWire ev kind tag v
 item-as-composed = one-composed
 
--- "Heartbeat value: 19, 20, 21"
+-- 4.7
 pub heartbeat-long : (v : List ℕ) (places : ℕ) → 255 < length v → beatSays (beatOf v places) ≡ number itemLong
 unfolding beatOf beatRefusal
 heartbeat-long v places h = simp (lt-ltb 255 (length v) h)
@@ -288,7 +287,7 @@ heartbeat-written-then-read ps w h e = beat-back ps w h e .2
 
 -- ---- the cache's size
 
--- 24: cache size 0 or over 64
+-- 3.24
 pub cache-of-none : checkedSays (newOf 0 .answer) (newOf 0 .cache) ≡ number cacheSize
 unfolding newOf
 cache-of-none = refl

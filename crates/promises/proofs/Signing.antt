@@ -33,8 +33,7 @@ use Rattle.mic.specs.declared.Validated.the-variants.{Valid, Invalid, Refused a
 use Rattle.promises.proofs.Said.{mesh-said}
 use Rattle.mic.specs.Mic.{micOf, fitting, signedOf, carryingMic, signedBy, setMic, comparedBy, validateMic, validSays}
 
--- "The MIC is the first 4 bytes of the CMAC over header byte and body as the writer writes them": what is signed is what is written before
--- the MIC
+-- 10.1: what is signed is what is written before the MIC
 message-by : (f : Writing) (has : Bool) (mic : ℕ) (w : List ℕ) → withMic has mic f ≡ bytes w → (m : List ℕ) × (fitting f ≡ bytes m) × (w ≡ m ++ beBytes 4 mic)
 unfolding withMic fitting
 message-by (refused n) has mic w e = let z : _≡_ {A = ℕ} 0 1 = cc in absurd (omega arith)
@@ -48,7 +47,7 @@ pub signs-what-is-written : (l : Lent) (p : MeshPacket) (w : List ℕ) → meshF
 unfolding meshFrame signedOf
 signs-what-is-written l p w e = message-by (messageOf l p) (p .«has_mic») (p .mic) w e
 
--- "Signing: the same without 27 and 21": it refuses with the writer's number, but for 27
+-- 4.11: signing refuses with the writer's number, but for 27
 signing-by : (E : List ℕ → List ℕ) (p : MeshPacket) (f : Writing) → numberIn (meshSays (signedBy E p f)) ≡ frameNumber f
 signing-by E p (refused n) = refl
 signing-by E p (bytes w) = refl
@@ -111,7 +110,7 @@ module _ (l : Lent) where
   unfolding answerOf
   strange-kind-not-written-alone p o h = ap (λ (f : Writing). writtenSays (answerOf (limitedOf f) o)) (wire-strange (p .payload) h)
 
--- "validating: 27, then as signing"
+-- 4.12
 pub validating-wants-a-mic : (E : List ℕ → List ℕ) (l : Lent) (p : MeshPacket) → kindsIn l p ≡ 0 → p .«has_mic» ≡ false → validSays (validateMic E l p) ≡ number micMissing
 unfolding validateMic
 validating-wants-a-mic E l p k e = simp (eq-eqb (kindsIn l p) 0 k, e)

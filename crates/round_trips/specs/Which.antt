@@ -1,4 +1,4 @@
--- Which frames are read, and which refusal the others get: document 01's least frame lengths, and its numbers, each exactly when it is
+-- Which frames are read, and which refusal the others get: the shortest frames, and the numbers, each exactly when it is
 -- given. Assumes nothing.
 use Prim.Native.Nat.{ℕ, _/_, _%_}
 use mathlib.Core.List.{List}

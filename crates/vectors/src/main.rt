@@ -1,4 +1,4 @@
-// Runs the published vectors of FIPS 197, SP 800-38A and RFC 4493, and document 01's rules of keys, its examples P1 to P12, the limits of
+// Runs the published vectors of FIPS 197, SP 800-38A and RFC 4493, and the rules of keys, the examples P1 to P12, the limits of
 // a cache and hop edits of one frame, and prints a line for each. The file stdout beside src/ has the published values; the gate compares.
 ghost use Prim.Native.Nat.{_≤_};
 use base::Checked;

@@ -15,7 +15,7 @@ reachOf n start len =
     (pick (ltb n start) (Refused outside)
     (pick (ltb (n - start) len) (Refused outside) Inside))
 
--- document 01's number, or 0
+-- the refusal's number, or 0
 abbrev pub reachNumber : Reach → ℕ
 reachNumber Inside = 0
 reachNumber (Refused n) = n
