@@ -625,6 +625,15 @@ static uint8_t do_show(void) {
     return r;
 }
 
+static uint8_t do_text(void) {
+    mesh_packet p = mesh();
+    uint64_t n = 0;
+    if (!whole()) return 0;
+    uint8_t r = mesh_packet_text(&p, made, sizeof made, &n);
+    if (r == 0) put_bytes(made, (size_t)n);
+    return r;
+}
+
 static uint8_t do_hop(void) {
     uint8_t key[16];
     span k = hex();
@@ -777,6 +786,43 @@ static uint8_t do_items(void) {
     if (it.refused) return it.refused;
     put(" ");
     return put_kept(is_event, b.at, b.n);
+}
+
+/* the face has no call for a sealed item alone: it is what a body has behind timestamp and relay id */
+static uint8_t sealed_written(uint8_t kind, span run) {
+    mesh_packet p = NOTHING;
+    p.kind = kind;
+    p.content = MESH_SEALED;
+    p.start = run.start;
+    p.len = run.len;
+    mesh_lent l = lent(all_hex());
+    uint64_t n = 0;
+    uint8_t r = mesh_packet_write_body(&p, &l, made, sizeof made, &n);
+    if (r == 0) put_hex(made + 8, (size_t)n - 8);
+    return r;
+}
+
+static uint8_t do_item(void) {
+    bool is_event = !is_command_word();
+    slice w = word();
+    if (begins(&w, "sealed=")) {
+        span run = unhex(&frame, w);
+        return whole() ? sealed_written(is_event ? MESH_EVENT : MESH_COMMAND, run) : 0;
+    }
+    item(is_event, w);
+    if (!whole()) return 0;
+    uint8_t r = 0, kind = kinds.at[0][0], tag = kinds.at[0][1];
+    slice value = {work.at, work.n};
+    uint64_t n = 0;
+    if (kind == MESH_ITEM_PATH) {
+        r = mesh_heartbeat_write(ids.at, ids.n, rssis.at, rssis.n, snrs.at, snrs.n, clear, sizeof clear, &n);
+        kind = MESH_ITEM_HEARTBEAT;
+        value.at = clear;
+        value.n = (size_t)n;
+    }
+    if (r == 0) r = mesh_item_write(is_event, kind, tag, value.at, value.n, made, sizeof made, &n);
+    if (r == 0) put_hex(made, (size_t)n);
+    return r;
 }
 
 static uint8_t do_stream(void) {
@@ -1085,6 +1131,7 @@ static const struct {
     {"write", do_write},
     {"rw", do_rw},
     {"show", do_show},
+    {"text", do_text},
     {"hop", do_hop},
     {"sign", do_sign},
     {"signframe", do_signframe},
@@ -1096,6 +1143,7 @@ static const struct {
     {"openframe", do_openframe},
     {"decodeframe", do_decodeframe},
     {"items", do_items},
+    {"item", do_item},
     {"stream", do_stream},
     {"hdr", do_hdr},
     {"hdrw", do_hdrw},

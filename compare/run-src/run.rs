@@ -503,7 +503,7 @@ fn size(request: &[u8]) -> usize {
 /// the request's first word, if it is one of the protocol's
 fn kind_of(request: &[u8]) -> Vec<u8> {
     let w = word(request);
-    if w == b"backend" || maker::KINDS.iter().any(|k| k.0.as_bytes() == w) {
+    if maker::is_kind(w) {
         w.to_vec()
     } else {
         b"(unknown)".to_vec()

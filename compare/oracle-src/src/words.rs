@@ -148,28 +148,50 @@ impl<'a> Words<'a> {
         }
         list.split(|c| *c == b',')
             .map(|one| {
-                let (name, value) = cut(one, b'=');
-                let value = value.ok_or(Stop::Bad("an item without ="))?;
-                if name == b"sealed" {
-                    return if self.raw { Ok(sealed(unhex(value)?)) } else { Err(Stop::Bad("a mixture")) };
-                }
-                item(name, value)
+                let (name, value) = named(one)?;
+                if name == b"sealed" && !self.raw { Err(Stop::Bad("a mixture")) } else { item(name, value) }
             })
             .collect()
     }
 
     fn events(&mut self) -> Read<Vec<Event>> {
-        self.body(Event::Encrypted, |name, value| {
-            if name == b"hb" {
-                return Ok(Event::Heartbeat(HeartbeatPayload { relay_path: path(value)? }));
-            }
-            Ok(Event::Proprietary((number(name)?, unhex(value)?)))
-        })
+        self.body(Event::Encrypted, event)
     }
 
     fn commands(&mut self) -> Read<Vec<Command>> {
-        self.body(Command::Encrypted, |name, value| Ok(Command::Proprietary((number(name)?, unhex(value)?))))
+        self.body(Command::Encrypted, command)
     }
+
+    /// a payload of one item, which may be a sealed one
+    pub fn item(&mut self, is_command: bool) -> Read<Payload> {
+        let (name, value) = named(self.word()?)?;
+        let (timestamp, relay_id) = (at(0), [0; 4]);
+        Ok(if is_command {
+            Payload::Command(CommandPayload { timestamp, relay_id, commands: vec![command(name, value)?] })
+        } else {
+            Payload::Event(EventPayload { timestamp, relay_id, events: vec![event(name, value)?] })
+        })
+    }
+}
+
+fn named(item: &[u8]) -> Read<(&[u8], &[u8])> {
+    let (name, value) = cut(item, b'=');
+    Ok((name, value.ok_or(Stop::Bad("an item without ="))?))
+}
+
+fn event(name: &[u8], value: &[u8]) -> Read<Event> {
+    Ok(match name {
+        b"sealed" => Event::Encrypted(unhex(value)?),
+        b"hb" => Event::Heartbeat(HeartbeatPayload { relay_path: path(value)? }),
+        _ => Event::Proprietary((number(name)?, unhex(value)?)),
+    })
+}
+
+fn command(name: &[u8], value: &[u8]) -> Read<Command> {
+    Ok(match name {
+        b"sealed" => Command::Encrypted(unhex(value)?),
+        _ => Command::Proprietary((number(name)?, unhex(value)?)),
+    })
 }
 
 pub fn kind(word: &[u8]) -> Read<PayloadType> {
