@@ -57,7 +57,7 @@ pub const ITEM_MOST: usize = 255;
 pub const PATH_MOST: usize = 42;
 /// The records of the largest cache.
 pub const CACHE_MOST: usize = 64;
-/// The bytes of the longest text of a frame.
+/// Enough bytes for any text of a frame or a packet.
 pub const TEXT_MOST: usize = 90;
 // end
 

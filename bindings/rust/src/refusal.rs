@@ -48,7 +48,7 @@ pub enum Refusal {
     ItemLong = 19,
     /// The length of a heartbeat is not a multiple of 6.
     HeartbeatLength = 20,
-    /// The lent output is too short for the answer.
+    /// The output has too little room for the answer.
     OutputShort = 21,
     /// The payload is open already, with two or more items.
     OpenMany = 22,
@@ -68,7 +68,7 @@ pub enum Refusal {
     TypeLarge = 29,
     /// The line has an odd count of digits, or a byte that is no hex digit.
     LineDigits = 30,
-    /// A place and a length run outside their buffer.
+    /// A run does not lie inside its buffer.
     Outside = 45,
 }
 // end
@@ -132,7 +132,7 @@ impl Refusal {
             Refusal::FrequencyStep => "the frequency is not a multiple of 100 Hz",
             Refusal::ItemLong => "an item's value has over 255 bytes, or a path over 42 entries",
             Refusal::HeartbeatLength => "the length of a heartbeat is not a multiple of 6",
-            Refusal::OutputShort => "the lent output is too short for the answer",
+            Refusal::OutputShort => "the output has too little room for the answer",
             Refusal::OpenMany => "the payload is open already, with two or more items",
             Refusal::OpenOne => "the payload is open already, with one item",
             Refusal::CacheSize => "the size of the cache is 0 or over 64",
@@ -142,7 +142,7 @@ impl Refusal {
             Refusal::FrequencyLength => "a frequency has 3 bytes",
             Refusal::TypeLarge => "the code of a type, of a content or of an item's kind is none, or a number is wider than its field",
             Refusal::LineDigits => "the line has an odd count of digits, or a byte that is no hex digit",
-            Refusal::Outside => "a place and a length run outside their buffer",
+            Refusal::Outside => "a run does not lie inside its buffer",
         }
     }
 }

@@ -67,7 +67,7 @@ pub fn put_length(w: Written, length: &mut u64) -> u8
 
 // ---- items
 
-// Kept items, skipped items, the bytes of kept items, of skipped items and of the cut tail, and 1 where nothing is skipped or cut.
+// How many items were kept and skipped, the bytes that the kept, the skipped and the cut tail take, and 1 where nothing is skipped or cut.
 pub fn counts_of(o: Opening) -> [u64; 6]
     ensures { λ r. ⌜ r ≡ countList o ⌝ }
 {

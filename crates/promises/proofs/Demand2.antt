@@ -173,7 +173,7 @@ module _ (key : List ℕ) (l : Lent) (w rest : List ℕ) (x : Lists) (k : List �
 
 -- ---- items
 
--- 7.7: the bytes of kept items, of skipped items and of the cut tail make up the payload
+-- 7.7
 pub counts-sum : (ev : Bool) (s : List ℕ)
     → openingOf ev s .«kept_bytes» + openingOf ev s .«skipped_bytes» + openingOf ev s .«cut_bytes» ≡ length s
 unfolding openingOf

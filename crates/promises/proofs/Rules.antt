@@ -3,23 +3,26 @@ use Prim.Native.Nat.{ℕ, zero, suc, _+_, _-_, _*_, _/_, _%_, _≤_, _<_}
 use native.Mathlib.Omega.{arith}
 use mathlib.Core.Bool.{Bool, true, false, not}
 use mathlib.Core.Path.{_≡_, refl, sym, ap, _∙_}
-use lib.Dec.{ltb, eqb}
+use lib.Dec.{ltb, leb, eqb}
 use mathlib.Core.List.{List, [], _∷_}
 use lib.IntN.{ℤ, pos, negℤ}
 use lib.ListN.{length, getD, take, drop, replicate}
-use borrow.Author.Tests.{lt-ltb, le-ltb, eq-eqb, ne-eqb}
+use borrow.Author.Tests.{lt-ltb, le-ltb, le-leb, lt-leb, leb-true, leb-false, eq-eqb, ne-eqb, eqb-true}
+use Rattle.base.specs.Pick.{pick}
 use Rattle.base.specs.Lists.{Bytes}
 use Rattle.base.specs.Blocks.{Block}
 use Rattle.base.specs.Numbers.{hopsNone, hopsMany, notMesh, typeLarge, keyLength, keyDigit, frequencyLarge, frequencyStep, frequencyLength, bodyShort, cacheSize, itemLong, heartbeatLength, outputShort, outside}
-use Rattle.base.specs.Answers.{value, number, bytes, checkedSays}
+use Rattle.base.specs.Answers.{value, number, bytes, refused, checkedSays}
 use Rattle.wire.specs.Hex.{allHex, unhex, hexText}
-use Rattle.wire.specs.Run.{runAt, runBytes}
+use Rattle.wire.specs.Run.{runAt, runRefusal, runBytes}
+use Rattle.wire.specs.declared.run.Run.{Run}
 use Rattle.fips197.specs.Aes.{aes}
 use Rattle.keys.specs.Key.{keyOf, keySays, keyFromSlice, keyFromText}
 use Rattle.derivation.specs.Derived.{signingKey, encryptionKey}
 use Rattle.keys.proofs.Laws.{text-back}
 use Rattle.fields.specs.Header.{typeRead, codeOf, headerOf, headerByte, typeSays, headerSays, byteSays}
-use Rattle.fields.specs.Freq.{halvedOf, stepsOf, freqWire, hertzOf, freqRead, freqSays, stepsSays}
+use Rattle.fields.specs.Freq.{halvedOf, stepsAt, stepsOf, freqWire, scaled, hertzOf, freqRead, freqSays, stepsSays}
+use Rattle.fields.specs.declared.freq.StepsRead.the-variants as steps
 use Rattle.fields.specs.Limits.{hertzLeast, hertzWritten, stepsMost}
 use Rattle.fields.specs.Signal.{rssiOf, rssiByte, snrOf, snrByte, signalSays}
 use Rattle.fields.specs.Meta.{upOf, upWire, downOf, downWire}
@@ -39,10 +42,11 @@ use Rattle.heartbeats.specs.declared.heartbeat.HeartbeatPayload.{HeartbeatPaylo
 use Rattle.heartbeats.proofs.Laws.{refused-entries, taken-entries, beat-back}
 use Rattle.items.specs.Items.{isBeat, badBeat, kindOf, pathKind, itemAt, Turn, walkedTo, keptItem, noItem, itemSays, listedItems}
 use Rattle.items.specs.declared.item.Item.{Item}
+use Rattle.items.specs.declared.item.ItemKind.the-variants.{Encrypted}
 use Rattle.items.proofs.Laws.{turn, walk-ends, kept-whole}
 use Rattle.kept_items.specs.Kept.{itemBytes, openBytes}
 use Rattle.composed_items.specs.Composed.{lists, tagOf, composedWire, lentBack}
-use Rattle.composed_items.specs.One.{oneWire, encodedOf}
+use Rattle.composed_items.specs.One.{oneWire, sealedWire, encodedOf}
 use Rattle.composed_items.proofs.Alone.{read-encoded, read-encoded-plain, read-again, one-read, one-composed}
 use Rattle.composed_items.proofs.Again.{written-back}
 use Rattle.packets.specs.Read.{meshOf, meshSays}
@@ -118,6 +122,40 @@ frequency-written-within f n e = written-within f n (steps-said (stepsOf f) n e)
 
 pub frequency-ends-written : (stepsSays (stepsOf hertzLeast) ≡ value 0) × (stepsSays (stepsOf hertzWritten) ≡ value stepsMost)
 frequency-ends-written = (ap stepsSays (both-written .0), ap stepsSays (both-written .1))
+
+-- 5.14: n steps, written of f, are read as f below 1.2 GHz, as twice f from there up to 2.4 GHz, and from there up as f without a half left over
+pub frequency-written-then-read : (f n : ℕ) → stepsSays (stepsOf f) ≡ value n
+    → scaled n ≡ pick (leb 2400000000 f) (f / 2 * 2) (pick (leb 1200000000 f) (f * 2) f)
+unfolding stepsOf halvedOf
+frequency-written-then-read f n e = by (leb 2400000000 f) refl (steps-said (stepsOf f) n e)
+  where
+    whole : (g : ℕ) → stepsAt g ≡ steps.Steps n → g ≡ n * 100
+    whole g z = of (ltb 16777215 (g / 100)) (eqb (g % 100) 0) refl refl z
+      where
+        of : (t u : Bool) → ltb 16777215 (g / 100) ≡ t → eqb (g % 100) 0 ≡ u
+            → pick t (steps.Refused frequencyLarge) (pick u (steps.Steps (g / 100)) (steps.Refused frequencyStep)) ≡ steps.Steps n → g ≡ n * 100
+        of true u p q z = let w : _≡_ {A = ℕ} 0 1 = cc in absurd (omega arith)
+        of false true p q z =
+            let d : g / 100 ≡ n = cc in
+            let m : g % 100 ≡ 0 = eqb-true (g % 100) 0 q in
+            omega arith
+        of false false p q z = let w : _≡_ {A = ℕ} 0 1 = cc in absurd (omega arith)
+
+    low : (t : Bool) → leb 1200000000 f ≡ t → f ≡ n * 100 → scaled n ≡ pick t (f * 2) f
+    low true p d =
+        let l : 1200000000 ≤ f = leb-true 1200000000 f p in
+        rw (le-leb 12000000 n (omega arith)) (omega arith)
+    low false p d =
+        let l : f < 1200000000 = leb-false 1200000000 f p in
+        rw (lt-leb 12000000 n (omega arith)) (omega arith)
+
+    by : (t : Bool) → leb 2400000000 f ≡ t → stepsAt (pick t (f / 2) f) ≡ steps.Steps n
+        → scaled n ≡ pick t (f / 2 * 2) (pick (leb 1200000000 f) (f * 2) f)
+    by true p z =
+        let l : 2400000000 ≤ f = leb-true 2400000000 f p in
+        let d : f / 2 ≡ n * 100 = whole (f / 2) z in
+        rw (le-leb 12000000 n (omega arith)) (omega arith)
+    by false p z = low (leb 1200000000 f) refl (whole f z)
 
 -- three bytes of frequency, read and written, are the same bytes; 3.28
 pub frequency-read-then-written : (a b c : ℕ) → a < 256 → b < 256 → c < 256 → freqWire (hertzOf a b c) ≡ bytes (a ∷ b ∷ c ∷ [])
@@ -240,6 +278,12 @@ item-written-then-read ev kind tag v w e = ap itemSays (one-read ev kind tag v w
 pub item-as-composed : (ev : Bool) (kind tag : ℕ) (v : List ℕ) → eqb kind pathKind ≡ false
     → composedWire ev (lists ((kind ∷ tag ∷ []) ∷ []) ((0 ∷ length v ∷ []) ∷ []) [] [] [] v) 1 ≡ oneWire ev kind tag v
 item-as-composed = one-composed
+
+-- a sealed run taken as an item, that no frame holds
+pub sealed-item-long : (ev : Bool) (tag : ℕ) (r : Run) (s : List ℕ) → runRefusal (length s) r ≡ 0 → 8179 < length (runBytes s r)
+    → encodedOf ev (record { kind = Encrypted; tag = tag; value = r }) s ≡ refused 5
+unfolding encodedOf sealedWire
+sealed-item-long ev tag r s a b = rw (a, lt-ltb 8179 (length (runBytes s r)) b) refl
 
 -- 4.7
 pub heartbeat-long : (v : List ℕ) (places : ℕ) → 255 < length v → beatSays (beatOf v places) ≡ number itemLong
