@@ -239,8 +239,9 @@ class Sources:
                 at = text.find('{', at)
                 first, public = owner + m[1] == 'main' or text.endswith('extern "C" ', 0, m.start()), text.endswith(('pub ', 'pub extern "C" '), 0, m.start())
                 answer = inner(answers[1]) if answers else ''
+                before = re.search(r'(?:#\[[^]]*\]\s*|pub |extern "C" )*\Z', text[max(0, m.start() - 200):m.start()])[0]
                 self.functions.append(Function(crate, module, owner, m[1], takes, answer, text[at:skip(text, at)], first, public, path, clauses, above,
-                                               text[m.start():at]))
+                                               before + text[m.start():at]))
         self.calls = {}
 
     def named(self, crate, module, path):
