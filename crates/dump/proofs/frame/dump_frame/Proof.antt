@@ -20,7 +20,7 @@ returns-2 : tie.Need-returns-2
 returns-2 c = same-frame _ _ _ _ _ (ap bytes (text-of _ _ (ap PacketIs (sym (c .before .before .before .before .before .before .before .p2 .given .1)) ∙ sym (c .before .before .before .before .before .before .before .before .before .before .p .given .1) ∙ c .before .before .before .before .before .before .before .before .before .before .before .before .from-slice .ensures))) (c .before .before .write-counted .ensures)
 
 returns-3 : tie.Need-returns-3
-returns-3 c = same-frame _ _ _ _ _ (ap bytes (text-of _ _ (ap PacketIs (sym (c .before .before .before .before .before .p3 .given .1)) ∙ sym (c .before .before .before .before .before .before .before .before .p .given .1) ∙ c .before .before .before .before .before .before .before .before .before .before .from-slice .ensures))) (c .before .before .write-text .ensures)
+returns-3 c = same-frame _ _ _ _ _ (ap bytes (text-of _ _ (ap PacketIs (sym (c .before .before .before .before .before .p3 .given .1)) ∙ sym (c .before .before .before .before .before .before .before .before .p .given .1) ∙ c .before .before .before .before .before .before .before .before .before .before .from-slice .ensures))) (c .before .before .write-mesh .ensures)
 
 pub dump-frame-spec : {M : Type 1} → statement M
 dump-frame-spec = tie.close (tie.spec (λ c κs. search needs) (λ c. search needs) (λ c κs. search needs) (λ c. search needs) (λ c. search needs) (λ c. search needs) cast-write-counted (λ c κs. search needs) (λ c. search needs) (λ c κs. search needs) (λ c. search needs) returns (λ c. search needs) returns-2 (λ c. search needs) returns-3)
