@@ -7,7 +7,6 @@
 #include <openssl/cmac.h>
 #include <openssl/crypto.h>
 #include <openssl/evp.h>
-#include <pthread.h>
 #include <stdio.h>
 #include <stdlib.h>
 #include <string.h>
@@ -15,6 +14,7 @@
 
 #include "limit.h"
 #include "mesh.h"
+#include "stack.h"
 
 static uint8_t key[16], message[255], block[16], tag[16], sealed[255], work[255];
 static uint64_t counts[MESH_COUNTS_NUMBERS];
@@ -273,28 +273,40 @@ static void beside_limit(void)
     if (sum == 1) printf("\n");
 }
 
-/* ---- the stack: a thread on a stack that was painted before, and how far down the paint is gone */
+/* ---- the stack */
 
-static size_t depth(void *(*work)(void *))
-{
-    const size_t size = 1 << 20;
-    uint8_t *stack = aligned_alloc(4096, size);
-    pthread_attr_t attributes;
-    pthread_t thread;
-    memset(stack, 0xa5, size);
-    pthread_attr_init(&attributes);
-    pthread_attr_setstack(&attributes, stack, size);
-    if (pthread_create(&thread, &attributes, work, NULL)) fail("no thread");
-    pthread_join(thread, NULL);
-    size_t untouched = 0;
-    while (untouched < size && stack[untouched] == 0xa5) untouched++;
-    free(stack);
-    return size - untouched;
-}
+static uint8_t uplink[64], event[64];
+static mesh_packet packets[2];
 
 static void *idle(void *unused) { return unused; }
 static void *sign(void *unused) { mesh_cmac(key, message, 255, tag); return unused; }
 static void *sign_ready(void *unused) { mesh_mac(ready, message, 255, tag); return unused; }
+static void *edit(void *unused) { mesh_set_hop_count(key, uplink, sizeof uplink, 2); return unused; }
+
+static void *validate(void *unused)
+{
+    mesh_lent lent = mesh_lent_frame(uplink, sizeof uplink);
+    bool valid;
+    mesh_packet_validate(&packets[0], key, &lent, &valid);
+    return unused;
+}
+
+static void *open_event(void *unused)
+{
+    mesh_packet_decrypt(&packets[1], key, event, sizeof event, work, sizeof work, (mesh_counts *)counts);
+    return unused;
+}
+
+static void stacks(void)
+{
+    const struct { const char *what; void *(*work)(void *); } rows[] = {
+        {"mesh_cmac", sign}, {"mesh_mac, key ready", sign_ready}, {"mesh_validate", validate}, {"mesh_set_hop_count", edit}, {"mesh_decrypt", open_event}};
+    uplink[0] = 0xe0, event[0] = 0xf0;
+    if (mesh_packet_read_mesh(&packets[0], uplink, sizeof uplink) || mesh_packet_read_mesh(&packets[1], event, sizeof event)) fail("a frame is refused");
+    size_t none = depth(idle, NULL);
+    printf("%-44s\n", "bytes of stack");
+    for (size_t i = 0; i < sizeof rows / sizeof *rows; i++) printf("%-44s %9zu\n", rows[i].what, depth(rows[i].work, NULL) - none);
+}
 
 static void row(const char *what, double mine, double theirs, const char *whose)
 {
@@ -319,7 +331,7 @@ int main(int count, char **words)
     double blocks, once, expand, mac14, mac255, ready14, ready255;
     TIME(blocks, 20000, mesh_encipher(ready, block));
     TIME(once, 5000, mesh_encrypt_block(key, block); key[0] = block[0]);
-    TIME(expand, 5000, mesh_prepare(key, ready); key[0] += ready[290]);
+    TIME(expand, 5000, mesh_prepare(key, ready); key[15] += ready[MESH_CIPHER_WORDS - 1]);
     TIME(mac14, 5000, mesh_cmac(key, message, 14, tag); message[0] = tag[0]; key[1] = tag[1]);
     TIME(mac255, 2000, mesh_cmac(key, message, 255, tag); message[0] = tag[0]; key[1] = tag[1]);
     TIME(ready14, 5000, mesh_mac(ready, message, 14, tag); message[0] = tag[0]);
@@ -409,7 +421,6 @@ int main(int count, char **words)
 
     beside_limit();
 
-    size_t none = depth(idle);
-    printf("stack of a MIC, key set: %zu bytes; key ready: %zu bytes\n", depth(sign) - none, depth(sign_ready) - none);
+    stacks();
     return words[0] == NULL;
 }

@@ -10,7 +10,7 @@ pub(crate) const MESH_VERSION: u32 = 3;
 
 // enum mesh_size
 pub(crate) const MESH_CACHE_WORDS: usize = 195;
-pub(crate) const MESH_CIPHER_WORDS: usize = 300;
+pub(crate) const MESH_CIPHER_WORDS: usize = 260;
 pub(crate) const MESH_PACKET_NUMBERS: usize = 16;
 pub(crate) const MESH_RECORD_NUMBERS: usize = 4;
 pub(crate) const MESH_COUNTS_NUMBERS: usize = 6;

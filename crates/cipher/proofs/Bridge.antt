@@ -1,8 +1,7 @@
 -- The cipher by columns is the cipher by bytes. Assumes nothing.
 use mathlib.Core.Path.{_≡_, refl, sym, ap, ap₂, _∙_}
 use mathlib.Core.List.{List, [], _∷_, _++_}
-use Prim.Native.Nat.{ℕ, zero, suc, _+_, _*_, _/_, _%_, _<_}
-use native.Mathlib.Nat.{add-zero}
+use Prim.Native.Nat.{ℕ, zero, suc, _+_, _*_, _<_}
 use native.Mathlib.Omega.{arith}
 use lib.Bits.{bitXor, xor-lt, xor-comm, xor-zero-r}
 use lib.Dec.{lit<}
@@ -15,13 +14,13 @@ use Rattle.wire.specs.Number.{beMore, beOf, beBytes}
 use Rattle.wire.proofs.Laws.Number.{bytes-of, be-xor}
 use Rattle.cipher.specs.declared.Cols.{Cols}
 use Rattle.fips197.specs.Field.{mul, sboxOf}
-use Rattle.fips197.specs.Aes.{state, at, sboxTable, subBytes, shiftRows, mixed, mixColumns, addRoundKey, keyByte, nextKey, roundKey, round, lastRound, rounds, aes}
-use Rattle.cipher.specs.inner.Words.{word, byteOf, col, loaded, bytesOf, teWord, teTable, keyWords, prepared, firstCol, nextCols, turned, sub, column, lastColumn, keyed, stepped, lastStepped, steps, enciphered}
+use Rattle.fips197.specs.Aes.{state, at, subBytes, shiftRows, mixed, mixColumns, addRoundKey, rcon, keyByte, nextKey, roundKey, round, lastRound, rounds, aes}
+use Rattle.cipher.specs.inner.Words.{word, byteOf, col, loaded, bytesOf, teWord, teTable, keyWords, prepared, turned, sub, firstKey, firstCol, nextCols, keyCols, column, lastColumn, keyed, stepped, lastStepped, steps, enciphered}
 use Rattle.fips197.proofs.Field.{mul-lt}
 use Rattle.cipher.proofs.Columns.{cols}
-use Rattle.fips197.proofs.Table.{sbox-at, sbox-lt}
+use Rattle.fips197.proofs.Table.{sbox-lt}
 use Rattle.cipher.proofs.Table.{te-at}
-use Rattle.fips197.proofs.Bytes.{add-lt, last-lt, rounds-lt, round-key-lt, key-byte-lt}
+use Rattle.fips197.proofs.Bytes.{add-lt, last-lt, rounds-lt, rcon-lt, round-key-lt, key-byte-lt}
 
 -- ---- words and their bytes
 
@@ -120,41 +119,11 @@ module _ (s : List ℕ) (h : Bytes s) where
         (four (h (0 + 4 * i)) (h (1 + 4 * i)) (h (2 + 4 * i)) (h (3 + 4 * i)))
         (four (hk (0 + 4 * c)) (hk (1 + 4 * c)) (hk (2 + 4 * c)) (hk (3 + 4 * c)))
 
--- ---- the round key after k
+    keyed-is : keyed (loaded k) (loaded s) ≡ loaded (addRoundKey s k)
+    unfolding keyed loaded col addRoundKey
+    keyed-is = cols (added-col 0 0) (added-col 1 1) (added-col 2 2) (added-col 3 3)
 
-module _ (v : ℕ) (k : List ℕ) (hv : v < 256) (hk : Bytes k) where
-  sbox-byte : (r : ℕ) → r < 4 → getD sboxTable (byteOf r (col k 3)) 0 ≡ sboxOf (getD (at k 0 3 ∷ at k 1 3 ∷ at k 2 3 ∷ at k 3 3 ∷ []) r 0)
-  sbox-byte r l = ap (λ (x : ℕ). getD sboxTable x 0) (col-byte k hk 3 r) ∙ sbox-at _ (col-four k hk 3 .small r)
-
-  first-is : firstCol sboxTable v (col k 0) (col k 3) ≡ word (keyByte v k 0 0) (keyByte v k 1 0) (keyByte v k 2 0) (keyByte v k 3 0)
-  unfolding firstCol col added
-  first-is =
-      ap (bitXor (col k 0))
-      (word-eq (ap (λ (x : ℕ). bitXor x v) (sbox-byte 1 (omega arith)))
-      (sbox-byte 2 (omega arith) ∙ sym (xor-zero-r _)) (sbox-byte 3 (omega arith) ∙ sym (xor-zero-r _)) (sbox-byte 0 (omega arith) ∙ sym (xor-zero-r _)))
-      ∙ four-xor (at k 0 0 ∷ at k 1 0 ∷ at k 2 0 ∷ at k 3 0 ∷ []) _ (col-four k hk 0)
-      (four (xor-lt 8 (sboxOf (at k 1 3)) v (sbox-lt (at k 1 3) (hk 13)) hv) (xor-lt 8 (sboxOf (at k 2 3)) 0 (sbox-lt (at k 2 3) (hk 14)) (lit< tt))
-      (xor-lt 8 (sboxOf (at k 3 3)) 0 (sbox-lt (at k 3 3) (hk 15)) (lit< tt)) (xor-lt 8 (sboxOf (at k 0 3)) 0 (sbox-lt (at k 0 3) (hk 12)) (lit< tt)))
-
-  key-col : ℕ → ℕ
-  key-col c = word (keyByte v k 0 c) (keyByte v k 1 c) (keyByte v k 2 c) (keyByte v k 3 c)
-
-  more-is : (c : ℕ) → bitXor (col k (suc c)) (key-col c) ≡ key-col (suc c)
-  unfolding col added key-col
-  more-is c =
-      four-xor (at k 0 (suc c) ∷ at k 1 (suc c) ∷ at k 2 (suc c) ∷ at k 3 (suc c) ∷ [])
-      (keyByte v k 0 c ∷ keyByte v k 1 c ∷ keyByte v k 2 c ∷ keyByte v k 3 c ∷ []) (col-four k hk (suc c))
-      (four (key-byte-lt v k hv hk 0 c) (key-byte-lt v k hv hk 1 c) (key-byte-lt v k hv hk 2 c) (key-byte-lt v k hv hk 3 c))
-
-  pub next-is : nextCols sboxTable v (loaded k) ≡ loaded (nextKey v k)
-  unfolding nextCols loaded col nextKey key-col
-  next-is =
-      let a = first-is in
-      let b = ap (bitXor (col k 1)) a ∙ more-is 0 in
-      let c = ap (bitXor (col k 2)) b ∙ more-is 1 in
-      cols a b c (ap (bitXor (col k 3)) c ∙ more-is 2)
-
--- ---- a block, under what was laid out for a key
+-- ---- under what was laid out for a key
 
 pub table-length : length teTable ≡ 256
 unfolding teTable
@@ -167,22 +136,62 @@ module _ (key : List ℕ) (hk : Bytes key) where
       let l : x < length teTable = rw table-length h in
       List·getD-append teTable (keyWords key) 0 x l ∙ te-at x h
 
-  key-of : (j c : ℕ) → j < 11 → c < 4 → getD (prepared key) (256 + 4 * j + c) 0 ≡ col (roundKey key j) c
-  unfolding prepared teTable keyWords
-  key-of j c hj hc =
-      let i : 256 + 4 * j + c ≡ 256 + (4 * j + c) = omega arith in
-      let q : (4 * j + c) / 4 ≡ j = omega arith in
-      let r : (4 * j + c) % 4 ≡ c = omega arith in
-      ap (λ (n : ℕ). getD (teTable ++ keyWords key) n 0) i
-      ∙ getD-append-add teTable (keyWords key) (4 * j + c) 0
-      ∙ from-zero-at 44 (λ n. col (roundKey key (n / 4)) (n % 4)) (4 * j + c) (omega arith)
-      ∙ ap₂ (λ (x y : ℕ). col (roundKey key x) y) q r
-
   sub-of : (x : ℕ) → x < 256 → sub (prepared key) x ≡ sboxOf x
   unfolding sub teWord
   sub-of x h =
       let b = sbox-lt x h in
       ap (byteOf 1) (te-of x h) ∙ byte-of _ (four (mul-lt 2 (sboxOf x) b) b b (mul-lt 3 (sboxOf x) b)) 1
+
+  -- ---- the round keys
+
+  key-at : (c : ℕ) → c < 4 → getD (prepared key) (256 + c) 0 ≡ col key c
+  unfolding prepared teTable keyWords
+  key-at c h = getD-append-add teTable (keyWords key) c 0 ∙ from-zero-at 4 (col key) c h
+
+  first-key : firstKey (prepared key) ≡ loaded key
+  unfolding firstKey loaded
+  first-key = cols (key-at 0 (omega arith)) (key-at 1 (omega arith)) (key-at 2 (omega arith)) (key-at 3 (omega arith))
+
+  module _ (v : ℕ) (k : List ℕ) (hv : v < 256) (hc : Bytes k) where
+    sub-byte : (r : ℕ) → sub (prepared key) (byteOf r (col k 3)) ≡ sboxOf (getD (at k 0 3 ∷ at k 1 3 ∷ at k 2 3 ∷ at k 3 3 ∷ []) r 0)
+    sub-byte r = ap (sub (prepared key)) (col-byte k hc 3 r) ∙ sub-of _ (col-four k hc 3 .small r)
+
+    first-is : firstCol (prepared key) v (col k 0) (col k 3) ≡ word (keyByte v k 0 0) (keyByte v k 1 0) (keyByte v k 2 0) (keyByte v k 3 0)
+    unfolding firstCol col added
+    first-is =
+        ap (bitXor (col k 0))
+        (word-eq (ap (λ (x : ℕ). bitXor x v) (sub-byte 1))
+        (sub-byte 2 ∙ sym (xor-zero-r _)) (sub-byte 3 ∙ sym (xor-zero-r _)) (sub-byte 0 ∙ sym (xor-zero-r _)))
+        ∙ four-xor (at k 0 0 ∷ at k 1 0 ∷ at k 2 0 ∷ at k 3 0 ∷ []) _ (col-four k hc 0)
+        (four (xor-lt 8 (sboxOf (at k 1 3)) v (sbox-lt (at k 1 3) (hc 13)) hv) (xor-lt 8 (sboxOf (at k 2 3)) 0 (sbox-lt (at k 2 3) (hc 14)) (lit< tt))
+        (xor-lt 8 (sboxOf (at k 3 3)) 0 (sbox-lt (at k 3 3) (hc 15)) (lit< tt)) (xor-lt 8 (sboxOf (at k 0 3)) 0 (sbox-lt (at k 0 3) (hc 12)) (lit< tt)))
+
+    key-col : ℕ → ℕ
+    key-col c = word (keyByte v k 0 c) (keyByte v k 1 c) (keyByte v k 2 c) (keyByte v k 3 c)
+
+    more-is : (c : ℕ) → bitXor (col k (suc c)) (key-col c) ≡ key-col (suc c)
+    unfolding col added key-col
+    more-is c =
+        four-xor (at k 0 (suc c) ∷ at k 1 (suc c) ∷ at k 2 (suc c) ∷ at k 3 (suc c) ∷ [])
+        (keyByte v k 0 c ∷ keyByte v k 1 c ∷ keyByte v k 2 c ∷ keyByte v k 3 c ∷ []) (col-four k hc (suc c))
+        (four (key-byte-lt v k hv hc 0 c) (key-byte-lt v k hv hc 1 c) (key-byte-lt v k hv hc 2 c) (key-byte-lt v k hv hc 3 c))
+
+    next-is : nextCols (prepared key) v (loaded k) ≡ loaded (nextKey v k)
+    unfolding nextCols loaded col nextKey key-col
+    next-is =
+        let a = first-is in
+        let b = ap (bitXor (col k 1)) a ∙ more-is 0 in
+        let c = ap (bitXor (col k 2)) b ∙ more-is 1 in
+        cols a b c (ap (bitXor (col k 3)) c ∙ more-is 2)
+
+  -- what round j works out is the j-th of the whole expansion
+  pub round-keys : (j : ℕ) → keyCols (prepared key) j ≡ loaded (roundKey key j)
+  unfolding keyCols roundKey
+  round-keys zero = first-key
+  round-keys (suc j) =
+      ap (nextCols (prepared key) (rcon j)) (round-keys j) ∙ next-is (rcon j) (roundKey key j) (rcon-lt j) (round-key-lt key hk j)
+
+  -- ---- a block
 
   -- of four bytes p q r u, and a round key's four
   bytes-column : (p q r u : ℕ) (k : List ℕ) (c : ℕ) → p < 256 → q < 256 → r < 256 → u < 256 → Bytes k
@@ -232,46 +241,27 @@ module _ (key : List ℕ) (hk : Bytes key) where
         ∙ four-xor (sboxOf (at s 0 i) ∷ sboxOf (at s 1 j) ∷ sboxOf (at s 2 m) ∷ sboxOf (at s 3 n) ∷ []) (at k 0 c ∷ at k 1 c ∷ at k 2 c ∷ at k 3 c ∷ [])
         (four (sbox-lt _ (h _)) (sbox-lt _ (h _)) (sbox-lt _ (h _)) (sbox-lt _ (h _))) (col-four k hc c)
 
-    step-is : (j : ℕ) → k ≡ roundKey key j → j < 11 → stepped (prepared key) (256 + 4 * j) (loaded s) ≡ loaded (round k s)
+    step-is : stepped (prepared key) (loaded k) (loaded s) ≡ loaded (round k s)
     unfolding stepped loaded col round addRoundKey mixColumns shiftRows subBytes
-    step-is j e l =
-        let key-at : (c : ℕ) → c < 4 → getD (prepared key) (256 + 4 * j + c) 0 ≡ col k c = λ c hc. key-of j c l hc ∙ ap (λ (x : List ℕ). col x c) (sym e) in
-        let zeroth : getD (prepared key) (256 + 4 * j) 0 ≡ col k 0 = ap (λ (n : ℕ). getD (prepared key) n 0) (sym (add-zero (256 + 4 * j))) ∙ key-at 0 (omega arith) in
-        cols (ap (column (prepared key) (col s 0) (col s 1) (col s 2) (col s 3)) zeroth ∙ cols-column 0 1 2 3 0)
-        (ap (column (prepared key) (col s 1) (col s 2) (col s 3) (col s 0)) (key-at 1 (omega arith)) ∙ cols-column 1 2 3 0 1)
-        (ap (column (prepared key) (col s 2) (col s 3) (col s 0) (col s 1)) (key-at 2 (omega arith)) ∙ cols-column 2 3 0 1 2)
-        (ap (column (prepared key) (col s 3) (col s 0) (col s 1) (col s 2)) (key-at 3 (omega arith)) ∙ cols-column 3 0 1 2 3)
+    step-is = cols (cols-column 0 1 2 3 0) (cols-column 1 2 3 0 1) (cols-column 2 3 0 1 2) (cols-column 3 0 1 2 3)
 
-    last-is : k ≡ roundKey key 10 → lastStepped (prepared key) (loaded s) ≡ loaded (lastRound k s)
+    last-is : lastStepped (prepared key) (loaded k) (loaded s) ≡ loaded (lastRound k s)
     unfolding lastStepped loaded col lastRound addRoundKey shiftRows subBytes
-    last-is e =
-        let key-at : (c : ℕ) → c < 4 → getD (prepared key) (256 + 4 * 10 + c) 0 ≡ col k c = λ c hc. key-of 10 c (omega arith) hc ∙ ap (λ (x : List ℕ). col x c) (sym e) in
-        cols (ap (lastColumn (prepared key) (col s 0) (col s 1) (col s 2) (col s 3)) (key-at 0 (omega arith)) ∙ last-col 0 1 2 3 0)
-        (ap (lastColumn (prepared key) (col s 1) (col s 2) (col s 3) (col s 0)) (key-at 1 (omega arith)) ∙ last-col 1 2 3 0 1)
-        (ap (lastColumn (prepared key) (col s 2) (col s 3) (col s 0) (col s 1)) (key-at 2 (omega arith)) ∙ last-col 2 3 0 1 2)
-        (ap (lastColumn (prepared key) (col s 3) (col s 0) (col s 1) (col s 2)) (key-at 3 (omega arith)) ∙ last-col 3 0 1 2 3)
+    last-is = cols (last-col 0 1 2 3 0) (last-col 1 2 3 0 1) (last-col 2 3 0 1 2) (last-col 3 0 1 2 3)
 
-  keyed-is : (s : List ℕ) → Bytes s → keyed (prepared key) (loaded s) ≡ loaded (addRoundKey s key)
-  unfolding keyed loaded col addRoundKey roundKey
-  keyed-is s h =
-      let key-at : (c : ℕ) → c < 4 → getD (prepared key) (256 + 4 * 0 + c) 0 ≡ col key c = λ c hc. key-of 0 c (omega arith) hc in
-      cols (ap (bitXor (col s 0)) (key-at 0 (omega arith)) ∙ added-col s h key hk 0 0) (ap (bitXor (col s 1)) (key-at 1 (omega arith)) ∙ added-col s h key hk 1 1)
-      (ap (bitXor (col s 2)) (key-at 2 (omega arith)) ∙ added-col s h key hk 2 2) (ap (bitXor (col s 3)) (key-at 3 (omega arith)) ∙ added-col s h key hk 3 3)
-
-  steps-are : (s : List ℕ) → Bytes s → (i : ℕ) → i < 10 → steps (prepared key) i (loaded s) ≡ loaded (rounds key i s)
+  steps-are : (s : List ℕ) → Bytes s → (i : ℕ) → steps (prepared key) i (loaded s) ≡ loaded (rounds key i s)
   unfolding rounds steps
-  steps-are s h zero l = refl
-  steps-are s h (suc i) l =
-      let e : 260 + 4 * i ≡ 256 + 4 * suc i = omega arith in
-      ap₂ (λ (n : ℕ) (x : Cols). stepped (prepared key) n x) e (steps-are s h i (omega arith))
-      ∙ step-is (rounds key i s) (rounds-lt key hk s h i) (roundKey key (suc i)) (round-key-lt key hk (suc i)) (suc i) refl (omega arith)
+  steps-are s h zero = refl
+  steps-are s h (suc i) =
+      ap₂ (stepped (prepared key)) (round-keys (suc i)) (steps-are s h i)
+      ∙ step-is (rounds key i s) (rounds-lt key hk s h i) (roundKey key (suc i)) (round-key-lt key hk (suc i))
 
   spread : (s k : List ℕ) → state (λ r c. at (lastRound k s) r c) ≡ lastRound k s
   unfolding lastRound addRoundKey
   spread s k = refl
 
   pub columns-are-bytes : (s : List ℕ) → Bytes s → enciphered (prepared key) s ≡ aes key s
-  unfolding enciphered aes
+  unfolding enciphered aes roundKey
   columns-are-bytes s h =
       let z = addRoundKey s key in
       let hz = add-lt s h key hk in
@@ -279,8 +269,9 @@ module _ (key : List ℕ) (hk : Bytes key) where
       let hy = rounds-lt key hk z hz 9 in
       let k = roundKey key 10 in
       let hl = round-key-lt key hk 10 in
-      ap (λ (x : Cols). bytesOf (lastStepped (prepared key) (steps (prepared key) 9 x))) (keyed-is s h)
-      ∙ ap (λ (x : Cols). bytesOf (lastStepped (prepared key) x)) (steps-are z hz 9 (omega arith))
-      ∙ ap bytesOf (last-is y hy k hl refl)
+      ap (λ (x : Cols). bytesOf (lastStepped (prepared key) (keyCols (prepared key) 10) (steps (prepared key) 9 x)))
+      (ap (λ (x : Cols). keyed x (loaded s)) (round-keys 0) ∙ keyed-is s h key hk)
+      ∙ ap₂ (λ (x y : Cols). bytesOf (lastStepped (prepared key) x y)) (round-keys 10) (steps-are z hz 9)
+      ∙ ap bytesOf (last-is y hy k hl)
       ∙ unloaded (lastRound k y) (last-lt k y hl hy)
       ∙ spread y k

@@ -1,12 +1,10 @@
 // AES-128 (FIPS 197) by columns: a state is four words of 32 bits, the first byte of a column the highest. What a round does to one byte,
-// SubBytes and its part in MixColumns, is one word of a table; a round of a column is four of them, turned and added. The table and the
-// eleven round keys are laid out once for a key.
+// SubBytes and its part in MixColumns, is one word of a table; a round of a column is four of them, turned and added. The table is laid out
+// once for a key, with the key behind it; each round key is worked out from the last when its round comes, and one is kept.
 ghost use mathlib.Core.Path.{_≡_};
-ghost use Prim.Native.Nat.{_+_, _≤_};
-ghost use lib.ListN.{length, getD, set};
-ghost use Rattle.cipher.specs.inner.Words.{byteOf, turned, sub, column, lastColumn, loaded, keyed, stepped, lastStepped, bytesOf, nextCols, teTable, keyWords, prepared, enciphered};
+ghost use lib.ListN.{length, getD};
+ghost use Rattle.cipher.specs.inner.Words.{byteOf, turned, sub, column, lastColumn, loaded, firstKey, nextCols, keyed, stepped, lastStepped, bytesOf, teTable, keyWords, prepared, enciphered};
 ghost use Rattle.wire.specs.Lay.{put};
-use fips197::sbox_table;
 use fips197::times2;
 use keys::Aes128Key;
 use wire::be32_of;
@@ -279,7 +277,7 @@ fn te_table() -> [u32; 256]
 }
 
 // Words of a prepared cipher.
-pub const WORDS: usize = 300;
+pub const WORDS: usize = 260;
 
 // A cipher made ready for one key. What is laid out in it is known to this crate alone, and its length by its name.
 pub type Cipher = [u32; WORDS];
@@ -372,41 +370,8 @@ fn unload(s: Cols) -> [u8; 16]
 
 // ---- what is laid out for a key
 
-fn sbox_at(s: &[u8; 256], x: u8) -> u8
-    ensures { λ r. ⌜ r ≡ getD (now (s .entry)) x 0 ⌝ }
-{
-    s[x as usize]
-}
-
-// The round key after k, by section 5.2: v is its round constant.
-fn next_cols(s: &[u8; 256], v: u8, k: Cols) -> Cols
-    ensures { λ r. ⌜ r ≡ nextCols (now (s .entry)) v k ⌝ }
-{
-    let t = be32_of(
-        sbox_at(s, byte1(k.d)) ^ v,
-        sbox_at(s, byte2(k.d)),
-        sbox_at(s, byte3(k.d)),
-        sbox_at(s, byte0(k.d)),
-    );
-    let a = k.a ^ t;
-    let b = k.b ^ a;
-    let c = k.c ^ b;
-    let d = k.d ^ c;
-    Cols { a, b, c, d }
-}
-
-fn lay_cols(e: &mut Cipher, at: usize, k: Cols)
-    requires { ⌜ at + 4 ≤ 300 ⌝ }
-    ensures { λ _. ⌜ now (e .exit) ≡ set (set (set (set (now (e .entry)) at (k .a)) (at + 1) (k .b)) (at + 2) (k .c)) (at + 3) (k .d) ⌝ }
-{
-    e[at] = k.a;
-    e[at + 1] = k.b;
-    e[at + 2] = k.c;
-    e[at + 3] = k.d;
-}
-
 fn lay_table(e: &mut Cipher)
-    requires { ⌜ length (now e) ≡ 300 ⌝ }
+    requires { ⌜ length (now e) ≡ 260 ⌝ }
     ensures { λ _. ⌜ now (e .exit) ≡ put (now (e .entry)) 0 teTable ⌝ }
 {
     let t = te_table();
@@ -415,20 +380,15 @@ fn lay_table(e: &mut Cipher)
     }
 }
 
-fn lay_keys(e: &mut Cipher, key: [u8; 16])
-    requires { ⌜ length (now e) ≡ 300 ⌝ }
+fn lay_key(e: &mut Cipher, key: [u8; 16])
+    requires { ⌜ length (now e) ≡ 260 ⌝ }
     ensures { λ _. ⌜ now (e .exit) ≡ put (now (e .entry)) 256 (keyWords key) ⌝ }
 {
-    let s = sbox_table();
-    let mut k = load(key);
-    let mut v: u8 = 1;
-    lay_cols(e, 256, k);
-    for j in 0usize..10 {
-        let n = next_cols(&s, v, k);
-        lay_cols(e, 260 + 4 * j, n);
-        k = n;
-        v = times2(v);
-    }
+    let k = load(key);
+    e[256] = k.a;
+    e[257] = k.b;
+    e[258] = k.c;
+    e[259] = k.d;
 }
 
 // The cipher made ready for a key.
@@ -437,11 +397,11 @@ pub fn prepare(key: Aes128Key) -> Cipher
 {
     let mut e = [0u32; WORDS];
     lay_table(&mut e);
-    lay_keys(&mut e, key.to_bytes());
+    lay_key(&mut e, key.to_bytes());
     e
 }
 
-// ---- a block
+// ---- lookups
 
 fn te(e: &Cipher, x: u8) -> u32
     ensures { λ r. ⌜ r ≡ getD (now (e .entry)) x 0 ⌝ }
@@ -455,6 +415,38 @@ fn sub(e: &Cipher, x: u8) -> u8
 {
     byte1(te(e, x))
 }
+
+// ---- round keys
+
+fn first_key(e: &Cipher) -> Cols
+    ensures { λ r. ⌜ r ≡ firstKey (now (e .entry)) ⌝ }
+{
+    Cols {
+        a: e[256],
+        b: e[257],
+        c: e[258],
+        d: e[259],
+    }
+}
+
+// The round key after k, by section 5.2: v is its round constant.
+fn next_cols(e: &Cipher, v: u8, k: Cols) -> Cols
+    ensures { λ r. ⌜ r ≡ nextCols (now (e .entry)) v k ⌝ }
+{
+    let t = be32_of(
+        sub(e, byte1(k.d)) ^ v,
+        sub(e, byte2(k.d)),
+        sub(e, byte3(k.d)),
+        sub(e, byte0(k.d)),
+    );
+    let a = k.a ^ t;
+    let b = k.b ^ a;
+    let c = k.c ^ b;
+    let d = k.d ^ c;
+    Cols { a, b, c, d }
+}
+
+// ---- a block
 
 fn round_column(e: &Cipher, a: u32, b: u32, c: u32, d: u32, k: u32) -> u32
     ensures { λ r. ⌜ r ≡ column (now (e .entry)) a b c d k ⌝ }
@@ -475,48 +467,54 @@ fn last_column(e: &Cipher, a: u32, b: u32, c: u32, d: u32, k: u32) -> u32
         ^ k
 }
 
-fn add_first(e: &Cipher, s: Cols) -> Cols
-    ensures { λ r. ⌜ r ≡ keyed (now (e .entry)) s ⌝ }
+fn add_key(k: Cols, s: Cols) -> Cols
+    ensures { λ r. ⌜ r ≡ keyed k s ⌝ }
 {
     Cols {
-        a: s.a ^ e[256],
-        b: s.b ^ e[257],
-        c: s.c ^ e[258],
-        d: s.d ^ e[259],
+        a: s.a ^ k.a,
+        b: s.b ^ k.b,
+        c: s.c ^ k.c,
+        d: s.d ^ k.d,
     }
 }
 
-fn step(e: &Cipher, j: usize, s: Cols) -> Cols
-    requires { ⌜ j + 4 ≤ 300 ⌝ }
-    ensures { λ r. ⌜ r ≡ stepped (now (e .entry)) j s ⌝ }
+fn step(e: &Cipher, k: Cols, s: Cols) -> Cols
+    ensures { λ r. ⌜ r ≡ stepped (now (e .entry)) k s ⌝ }
 {
     Cols {
-        a: round_column(e, s.a, s.b, s.c, s.d, e[j]),
-        b: round_column(e, s.b, s.c, s.d, s.a, e[j + 1]),
-        c: round_column(e, s.c, s.d, s.a, s.b, e[j + 2]),
-        d: round_column(e, s.d, s.a, s.b, s.c, e[j + 3]),
+        a: round_column(e, s.a, s.b, s.c, s.d, k.a),
+        b: round_column(e, s.b, s.c, s.d, s.a, k.b),
+        c: round_column(e, s.c, s.d, s.a, s.b, k.c),
+        d: round_column(e, s.d, s.a, s.b, s.c, k.d),
     }
 }
 
-fn last_step(e: &Cipher, s: Cols) -> Cols
-    ensures { λ r. ⌜ r ≡ lastStepped (now (e .entry)) s ⌝ }
+fn last_step(e: &Cipher, k: Cols, s: Cols) -> Cols
+    ensures { λ r. ⌜ r ≡ lastStepped (now (e .entry)) k s ⌝ }
 {
     Cols {
-        a: last_column(e, s.a, s.b, s.c, s.d, e[296]),
-        b: last_column(e, s.b, s.c, s.d, s.a, e[297]),
-        c: last_column(e, s.c, s.d, s.a, s.b, e[298]),
-        d: last_column(e, s.d, s.a, s.b, s.c, e[299]),
+        a: last_column(e, s.a, s.b, s.c, s.d, k.a),
+        b: last_column(e, s.b, s.c, s.d, s.a, k.b),
+        c: last_column(e, s.c, s.d, s.a, s.b, k.c),
+        d: last_column(e, s.d, s.a, s.b, s.c, k.d),
     }
 }
 
-// A block, under whatever was lent. Made by `prepare`, it is FIPS 197's cipher (Laws, prepared-agrees).
+// A block, under whatever was lent. Made by `prepare`, it is FIPS 197's cipher (Laws, prepared-agrees). The key in hand is that of the coming
+// round: worked out at the end of the last one, it takes the fewest temporaries.
 pub fn encipher(e: &Cipher, block: [u8; 16]) -> [u8; 16]
     ensures { λ r. ⌜ r ≡ enciphered (now (e .entry)) block ⌝ }
 {
-    let mut s = add_first(e, load(block));
+    let first = first_key(e);
+    let mut k = next_cols(e, 1, first);
+    let mut v: u8 = 2;
+    let mut s = add_key(first, load(block));
     for i in 0usize..9 {
-        let n = step(e, 260 + 4 * i, s);
-        s = n;
+        let t = step(e, k, s);
+        let n = next_cols(e, v, k);
+        s = t;
+        k = n;
+        v = times2(v);
     }
-    unload(last_step(e, s))
+    unload(last_step(e, k, s))
 }

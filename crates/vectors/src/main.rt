@@ -23,6 +23,7 @@ use fields::PayloadType;
 use fields::UplinkMetadata;
 use fields::decode_freq;
 use fields::encode_freq;
+use fips197::sbox_table;
 use hops::set_hop_count;
 use items::Command;
 use items::Event;
@@ -102,6 +103,32 @@ fn fips197() {
         b"000102030405060708090a0b0c0d0e0f",
         b"00112233445566778899aabbccddeeff",
     );
+}
+
+// Sixteen of the S-box's values, and the end of the line.
+fn row(label: &[u8], t: &[u8; 256], at: usize) {
+    hex(label, part(t, at, 16));
+    say(b"\n");
+}
+
+fn sbox() {
+    let t = sbox_table();
+    row(b"FIPS 197 table 4, row 0  ", &t, 0);
+    row(b"FIPS 197 table 4, row 1  ", &t, 16);
+    row(b"FIPS 197 table 4, row 2  ", &t, 32);
+    row(b"FIPS 197 table 4, row 3  ", &t, 48);
+    row(b"FIPS 197 table 4, row 4  ", &t, 64);
+    row(b"FIPS 197 table 4, row 5  ", &t, 80);
+    row(b"FIPS 197 table 4, row 6  ", &t, 96);
+    row(b"FIPS 197 table 4, row 7  ", &t, 112);
+    row(b"FIPS 197 table 4, row 8  ", &t, 128);
+    row(b"FIPS 197 table 4, row 9  ", &t, 144);
+    row(b"FIPS 197 table 4, row a  ", &t, 160);
+    row(b"FIPS 197 table 4, row b  ", &t, 176);
+    row(b"FIPS 197 table 4, row c  ", &t, 192);
+    row(b"FIPS 197 table 4, row d  ", &t, 208);
+    row(b"FIPS 197 table 4, row e  ", &t, 224);
+    row(b"FIPS 197 table 4, row f  ", &t, 240);
 }
 
 fn sp800_38a() {
@@ -631,6 +658,7 @@ fn edits() {
 
 fn main() {
     fips197();
+    sbox();
     sp800_38a();
     rfc4493();
     keys();

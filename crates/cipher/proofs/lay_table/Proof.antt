@@ -24,14 +24,14 @@ loop-holds c = laying-none _ _ _
 
 loop-again : tie.Need-loop-again Inv-loop μ-loop
 loop-again c = let n : length teTable ≡ 256 = table-length in
-    let m : length (now (c .before .before .before .args .e)) ≡ 300 = c .before .before .before .pre in
+    let m : length (now (c .before .before .before .args .e)) ≡ 260 = c .before .before .before .pre in
     let h : 0 + length teTable ≤ length (now (c .before .before .before .args .e)) = omega arith in
     let l : c .before .loop .i < length teTable = omega arith in
     rw zero-add at (laying-more (now (c .before .before .before .args .e)) 0 teTable h (c .before .loop .e) (c .before .loop .i) _ l (ap (λ (t : List ℕ). getD t (c .before .loop .i) 0) (c .before .before .te-table .ensures)) (c .before .loop .inv))
 
 returns : tie.Need-returns Inv-loop μ-loop
 returns c = let n : length teTable ≡ 256 = table-length in
-    let m : length (now (c .before .before .before .args .e)) ≡ 300 = c .before .before .before .pre in
+    let m : length (now (c .before .before .before .args .e)) ≡ 260 = c .before .before .before .pre in
     let h : 0 + length teTable ≤ length (now (c .before .before .before .args .e)) = omega arith in
     laying-done _ _ _ h _ (c .before .loop .i) (omega arith) (c .before .loop .inv)
 

@@ -11,13 +11,13 @@ use mathlib.Core.Path.{refl, ap, ap₂, _∙_}
 use Rattle.cipher.proofs.prepare.Statement.{statement}
 use Rattle.cipher.proofs.prepare.Tie as tie
 
-lay-keys-requires : tie.Need-lay-keys-requires
-lay-keys-requires c κs = ap length (c .before .before .lay-table .ensures) ∙ put-length _ _ _
+lay-key-requires : tie.Need-lay-key-requires
+lay-key-requires c κs = ap length (c .before .before .lay-table .ensures) ∙ put-length _ _ _
 
 returns : tie.Need-returns
-returns c = c .lay-keys .ensures
+returns c = c .lay-key .ensures
     ∙ ap₂ (λ (o k : List ℕ). put o 256 (keyWords k)) (c .before .before .before .lay-table .ensures) (c .before .to-bytes .ensures)
-    ∙ laid-out (replicate 300 0) _ refl
+    ∙ laid-out (replicate 260 0) _ refl
 
 pub prepare-spec : {M : Type 1} → statement M
-prepare-spec = tie.close (tie.spec (λ c κs. search needs) (λ c κs. search needs) lay-keys-requires returns)
+prepare-spec = tie.close (tie.spec (λ c κs. search needs) (λ c κs. search needs) lay-key-requires returns)

@@ -7,7 +7,7 @@ use Rattle.cipher.proofs.step.Tie as tie
 
 returns : tie.Need-returns
 unfolding stepped
-returns c = cols (c .before .before .before .before .before .before .round-column .ensures) (c .before .before .before .before .round-column2 .ensures) (c .before .before .round-column3 .ensures) (c .round-column4 .ensures)
+returns c = cols (c .before .before .before .round-column .ensures) (c .before .before .round-column2 .ensures) (c .before .round-column3 .ensures) (c .round-column4 .ensures)
 
 pub step-spec : {M : Type 1} → statement M
-step-spec = tie.close (tie.spec (λ c. search needs) (λ c. search needs) (λ c κs. search needs) (λ c. search needs) (λ c. search needs) (λ c. search needs) (λ c κs. search needs) (λ c. search needs) (λ c. search needs) (λ c. search needs) (λ c κs. search needs) (λ c. search needs) (λ c. search needs) (λ c. search needs) (λ c κs. search needs) returns)
+step-spec = tie.close (tie.spec (λ c κs. search needs) (λ c κs. search needs) (λ c κs. search needs) (λ c κs. search needs) returns)

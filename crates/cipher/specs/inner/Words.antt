@@ -8,7 +8,7 @@ use Rattle.base.specs.Lists.{from}
 use Rattle.wire.specs.Number.{beOf, beBytes}
 use Rattle.cipher.specs.declared.Cols.{Cols}
 use Rattle.fips197.specs.Field.{mul, sboxOf}
-use Rattle.fips197.specs.Aes.{state, at, roundKey}
+use Rattle.fips197.specs.Aes.{state, at, rcon}
 
 abbrev pub word : ℕ → ℕ → ℕ → ℕ → ℕ
 word a b c d = beOf (a ∷ b ∷ c ∷ d ∷ [])
@@ -40,32 +40,38 @@ teWord x = word (mul 2 (sboxOf x)) (sboxOf x) (sboxOf x) (mul 3 (sboxOf x))
 unfoldable pub teTable : List ℕ
 teTable = from 256 0 teWord
 
--- the round keys, a column after the other
+-- the columns of a key
 unfoldable pub keyWords : List ℕ → List ℕ
-keyWords key = from 44 0 (λ i. col (roundKey key (i / 4)) (i % 4))
+keyWords key = from 4 0 (col key)
 
 unfoldable pub prepared : List ℕ → List ℕ
 prepared key = teTable ++ keyWords key
-
--- the round key after k, over a table t of the S-box
-unfoldable pub firstCol : List ℕ → ℕ → ℕ → ℕ → ℕ
-firstCol t v a d =
-    bitXor a
-    (word (bitXor (getD t (byteOf 1 d) 0) v) (getD t (byteOf 2 d) 0) (getD t (byteOf 3 d) 0) (getD t (byteOf 0 d) 0))
-
-abbrev pub colsFrom : ℕ → ℕ → ℕ → ℕ → Cols
-colsFrom a b c d = record { a = a; b = bitXor b a; c = bitXor c (bitXor b a); d = bitXor d (bitXor c (bitXor b a)) }
-
-unfoldable pub nextCols : List ℕ → ℕ → Cols → Cols
-nextCols t v k = colsFrom (firstCol t v (k .a) (k .d)) (k .b) (k .c) (k .d)
 
 -- a word turned right by k bytes
 unfoldable pub turned : ℕ → ℕ → ℕ
 turned k x = x / 256 ^ k + x % 256 ^ k * 256 ^ (4 - k)
 
--- over what was laid out, e: the table first, the round keys from 256 on
+-- over what was laid out, e: the table first, the key's columns from 256 on
 unfoldable pub sub : List ℕ → ℕ → ℕ
 sub e x = byteOf 1 (getD e x 0)
+
+unfoldable pub firstKey : List ℕ → Cols
+firstKey e = record { a = getD e 256 0; b = getD e 257 0; c = getD e 258 0; d = getD e 259 0 }
+
+-- the round key after k, whose round constant is v
+unfoldable pub firstCol : List ℕ → ℕ → ℕ → ℕ → ℕ
+firstCol e v a d = bitXor a (word (bitXor (sub e (byteOf 1 d)) v) (sub e (byteOf 2 d)) (sub e (byteOf 3 d)) (sub e (byteOf 0 d)))
+
+abbrev pub colsFrom : ℕ → ℕ → ℕ → ℕ → Cols
+colsFrom a b c d = record { a = a; b = bitXor b a; c = bitXor c (bitXor b a); d = bitXor d (bitXor c (bitXor b a)) }
+
+unfoldable pub nextCols : List ℕ → ℕ → Cols → Cols
+nextCols e v k = colsFrom (firstCol e v (k .a) (k .d)) (k .b) (k .c) (k .d)
+
+-- the key of round j, each from the last
+unfoldable pub keyCols : List ℕ → ℕ → Cols
+keyCols e zero = firstKey e
+keyCols e (suc j) = nextCols e (rcon j) (keyCols e j)
 
 -- a column of a round, from the four columns that hold its bytes, and the round key's column
 unfoldable pub column : List ℕ → ℕ → ℕ → ℕ → ℕ → ℕ → ℕ
@@ -78,36 +84,30 @@ column e a b c d k =
 unfoldable pub lastColumn : List ℕ → ℕ → ℕ → ℕ → ℕ → ℕ → ℕ
 lastColumn e a b c d k = bitXor (word (sub e (byteOf 0 a)) (sub e (byteOf 1 b)) (sub e (byteOf 2 c)) (sub e (byteOf 3 d))) k
 
-unfoldable pub keyed : List ℕ → Cols → Cols
-keyed e s =
+unfoldable pub keyed : Cols → Cols → Cols
+keyed k s = record { a = bitXor (s .a) (k .a); b = bitXor (s .b) (k .b); c = bitXor (s .c) (k .c); d = bitXor (s .d) (k .d) }
+
+unfoldable pub stepped : List ℕ → Cols → Cols → Cols
+stepped e k s =
     record {
-      a = bitXor (s .a) (getD e 256 0);
-      b = bitXor (s .b) (getD e 257 0);
-      c = bitXor (s .c) (getD e 258 0);
-      d = bitXor (s .d) (getD e 259 0);
+      a = column e (s .a) (s .b) (s .c) (s .d) (k .a);
+      b = column e (s .b) (s .c) (s .d) (s .a) (k .b);
+      c = column e (s .c) (s .d) (s .a) (s .b) (k .c);
+      d = column e (s .d) (s .a) (s .b) (s .c) (k .d);
     }
 
-unfoldable pub stepped : List ℕ → ℕ → Cols → Cols
-stepped e j s =
+unfoldable pub lastStepped : List ℕ → Cols → Cols → Cols
+lastStepped e k s =
     record {
-      a = column e (s .a) (s .b) (s .c) (s .d) (getD e j 0);
-      b = column e (s .b) (s .c) (s .d) (s .a) (getD e (j + 1) 0);
-      c = column e (s .c) (s .d) (s .a) (s .b) (getD e (j + 2) 0);
-      d = column e (s .d) (s .a) (s .b) (s .c) (getD e (j + 3) 0);
-    }
-
-unfoldable pub lastStepped : List ℕ → Cols → Cols
-lastStepped e s =
-    record {
-      a = lastColumn e (s .a) (s .b) (s .c) (s .d) (getD e 296 0);
-      b = lastColumn e (s .b) (s .c) (s .d) (s .a) (getD e 297 0);
-      c = lastColumn e (s .c) (s .d) (s .a) (s .b) (getD e 298 0);
-      d = lastColumn e (s .d) (s .a) (s .b) (s .c) (getD e 299 0);
+      a = lastColumn e (s .a) (s .b) (s .c) (s .d) (k .a);
+      b = lastColumn e (s .b) (s .c) (s .d) (s .a) (k .b);
+      c = lastColumn e (s .c) (s .d) (s .a) (s .b) (k .c);
+      d = lastColumn e (s .d) (s .a) (s .b) (s .c) (k .d);
     }
 
 unfoldable pub steps : List ℕ → ℕ → Cols → Cols
 steps e zero s = s
-steps e (suc i) s = stepped e (260 + 4 * i) (steps e i s)
+steps e (suc i) s = stepped e (keyCols e (suc i)) (steps e i s)
 
 unfoldable pub enciphered : List ℕ → List ℕ → List ℕ
-enciphered e s = bytesOf (lastStepped e (steps e 9 (keyed e (loaded s))))
+enciphered e s = bytesOf (lastStepped e (keyCols e 10) (steps e 9 (keyed (keyCols e 0) (loaded s))))

@@ -1,0 +1,62 @@
+/* Two archives of the library in one process, call by call and in turns of each, so that what disturbs one disturbs the other: the times, their
+   ratio, and the stack. bench/turns builds it. Both sides do the same work from the same bytes, and what they answer is held to each other. */
+#define _GNU_SOURCE
+#include <stdio.h>
+#include <time.h>
+
+#include "side.h"
+#include "stack.h"
+
+enum { TURNS = 301 };
+static const struct side *const sides[2] = {&before, &after};
+
+static double now(void)
+{
+    struct timespec t;
+    clock_gettime(CLOCK_MONOTONIC, &t);
+    return t.tv_sec * 1e9 + t.tv_nsec;
+}
+
+static int by_size(const void *a, const void *b) { return (*(const double *)a > *(const double *)b) - (*(const double *)a < *(const double *)b); }
+
+static void *idle(void *unused) { return unused; }
+
+static void *once(void *call)
+{
+    ((const struct call *)call)->work();
+    return NULL;
+}
+
+int main(void)
+{
+    static double times[2][TURNS], ratios[TURNS];
+    if (before.version() != after.version()) {
+        printf("turns: the archives are of versions %u and %u: their calls are not the same\n", before.version(), after.version());
+        return 2;
+    }
+    printf("%-50s %9s %9s %7s   %7s %7s\n", "ns, medians of 301 turns of each", "before", "after", "ratio", "stack", "stack");
+    size_t none = depth(idle, NULL);
+    for (int i = 0; i < after.count; i++) {
+        const struct call *calls[2] = {&before.calls[i], &after.calls[i]};
+        for (int side = 0; side < 2; side++) sides[side]->begin();
+        for (int turn = 0; turn < TURNS; turn++) {
+            for (int side = 0; side < 2; side++) {
+                double start = now();
+                for (int n = 0; n < calls[side]->times; n++) calls[side]->work();
+                times[side][turn] = (now() - start) / calls[side]->times;
+            }
+            ratios[turn] = times[1][turn] / times[0][turn];
+        }
+        if (before.sum() != after.sum()) {
+            printf("turns: %s: the two answer otherwise\n", calls[0]->name);
+            return 1;
+        }
+        for (int side = 0; side < 2; side++) qsort(times[side], TURNS, sizeof(double), by_size);
+        qsort(ratios, TURNS, sizeof(double), by_size);
+        printf("%-50s %9.1f %9.1f %7.2f", calls[0]->name, times[0][TURNS / 2], times[1][TURNS / 2], ratios[TURNS / 2]);
+        if (calls[0]->stack)
+            printf("   %7zu %7zu", depth(once, (void *)calls[0]) - none, depth(once, (void *)calls[1]) - none);
+        printf("\n");
+    }
+    return 0;
+}
