@@ -278,34 +278,26 @@ static void beside_limit(void)
 static uint8_t uplink[64], event[64];
 static mesh_packet packets[2];
 
-static void *idle(void *unused) { return unused; }
-static void *sign(void *unused) { mesh_cmac(key, message, 255, tag); return unused; }
-static void *sign_ready(void *unused) { mesh_mac(ready, message, 255, tag); return unused; }
-static void *edit(void *unused) { mesh_set_hop_count(key, uplink, sizeof uplink, 2); return unused; }
+static void sign(void) { mesh_cmac(key, message, 255, tag); }
+static void sign_ready(void) { mesh_mac(ready, message, 255, tag); }
+static void edit(void) { mesh_set_hop_count(key, uplink, sizeof uplink, 2); }
+static void open_event(void) { mesh_packet_decrypt(&packets[1], key, event, sizeof event, work, sizeof work, (mesh_counts *)counts); }
 
-static void *validate(void *unused)
+static void validate(void)
 {
     mesh_lent lent = mesh_lent_frame(uplink, sizeof uplink);
     bool valid;
     mesh_packet_validate(&packets[0], key, &lent, &valid);
-    return unused;
-}
-
-static void *open_event(void *unused)
-{
-    mesh_packet_decrypt(&packets[1], key, event, sizeof event, work, sizeof work, (mesh_counts *)counts);
-    return unused;
 }
 
 static void stacks(void)
 {
-    const struct { const char *what; void *(*work)(void *); } rows[] = {
+    const struct { const char *what; void (*work)(void); } rows[] = {
         {"mesh_cmac", sign}, {"mesh_mac, key ready", sign_ready}, {"mesh_validate", validate}, {"mesh_set_hop_count", edit}, {"mesh_decrypt", open_event}};
     uplink[0] = 0xe0, event[0] = 0xf0;
     if (mesh_packet_read_mesh(&packets[0], uplink, sizeof uplink) || mesh_packet_read_mesh(&packets[1], event, sizeof event)) fail("a frame is refused");
-    size_t none = depth(idle, NULL);
-    printf("%-44s\n", "bytes of stack");
-    for (size_t i = 0; i < sizeof rows / sizeof *rows; i++) printf("%-44s %9zu\n", rows[i].what, depth(rows[i].work, NULL) - none);
+    printf("bytes of stack\n");
+    for (size_t i = 0; i < sizeof rows / sizeof *rows; i++) printf("%-44s %9zu\n", rows[i].what, depth(rows[i].work));
 }
 
 static void row(const char *what, double mine, double theirs, const char *whose)

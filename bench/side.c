@@ -1,70 +1,106 @@
 /* The calls that bench/turns measures. It is compiled twice: as `after` over the archive of this tree, and as `before` over an older one, whose
    functions then have `before_` before their names. */
-#include "side.h"
+#include <string.h>
+
 #include "mesh.h"
+#include "side.h"
 
 enum { MOST = 8192 };
-static uint8_t key[16], block[16], tag[16], frame[MOST], event[MOST], message[MOST], work[MOST];
-/* room for the cipher of an archive that asks for more than this header */
+
+/* All that the calls are given and leave. */
+static struct {
+    uint8_t key[16], block[16], tag[16], frame[MOST], event[MOST], message[MOST], work[MOST];
+    uint32_t words[MESH_CIPHER_WORDS];
+    mesh_packet packet;
+    mesh_counts counts;
+    uint64_t length, valid;
+} the;
+
+/* A cipher of an archive that asks for more than this header, too. */
 static uint32_t ready[MESH_CIPHER_WORDS + 256];
-static uint64_t sum;
+static uint64_t refusals;
 
 static void begin(void)
 {
-    for (int i = 0; i < 16; i++) key[i] = (uint8_t)(i * 7 + 1), block[i] = (uint8_t)i;
-    for (int i = 0; i < MOST; i++) message[i] = frame[i] = event[i] = (uint8_t)(i * 11 + 3);
-    frame[0] = 0xe0, event[0] = 0xf0;
-    mesh_prepare(key, ready);
-    sum = 0;
+    memset(&the, 0, sizeof the);
+    for (int i = 0; i < 16; i++) the.key[i] = (uint8_t)(i * 7 + 1), the.block[i] = (uint8_t)i;
+    for (int i = 0; i < MOST; i++) the.message[i] = the.frame[i] = the.event[i] = (uint8_t)(i * 11 + 3);
+    the.frame[0] = 0xe0, the.event[0] = 0xf0;
+    mesh_prepare(the.key, ready);
+    refusals = 0;
 }
 
-static void add(const uint8_t *from, int n)
+static void block_ready(void) { mesh_encipher(ready, the.block); }
+
+static void block_set(void)
 {
-    for (int i = 0; i < n; i++) sum = sum * 31 + from[i];
+    mesh_encrypt_block(the.key, the.block);
+    the.key[1] = the.block[1];
 }
 
-static void block_ready(void) { mesh_encipher(ready, block), add(block, 4); }
-static void block_set(void) { mesh_encrypt_block(key, block), add(block, 4), key[1] = block[1]; }
-static void prepared(void) { mesh_prepare(key, ready), key[1]++, sum += ready[255]; }
+static void prepared(void)
+{
+    mesh_prepare(the.key, ready);
+    the.key[1]++;
+    memcpy(the.words + MESH_CIPHER_WORDS - 4, ready + MESH_CIPHER_WORDS - 4, 4 * sizeof *ready);
+}
 
-static void mic(size_t n) { mesh_cmac(key, message, n, tag), message[0] = tag[0], key[1] = tag[1], add(tag, 4); }
-static void mic_ready(size_t n) { mesh_mac(ready, message, n, tag), message[0] = tag[0], add(tag, 4); }
+static void mic(size_t n)
+{
+    mesh_cmac(the.key, the.message, n, the.tag);
+    the.message[0] = the.tag[0];
+    the.key[1] = the.tag[1];
+}
 
-static void streamed(size_t n) { sum += mesh_stream(key, false, 0x0a0b0c0d, 60, message, n, work, MOST), key[1] = work[3], add(work, 4); }
+static void mic_ready(size_t n)
+{
+    mesh_mac(ready, the.message, n, the.tag);
+    the.message[0] = the.tag[0];
+}
+
+static void streamed(size_t n)
+{
+    refusals += mesh_stream(the.key, false, 0x0a0b0c0d, 60, the.message, n, the.work, MOST);
+    the.key[1] = the.work[3];
+}
 
 /* an event of n bytes, its payload sealed, from its bytes on */
 static void opened(size_t n)
 {
-    mesh_packet p;
-    mesh_counts c;
-    sum += mesh_packet_read_mesh(&p, event, n);
-    sum += mesh_packet_decrypt(&p, key, event, n, work, MOST, &c) + c.kept + c.cut_bytes, key[1] = work[3];
+    refusals += mesh_packet_read_mesh(&the.packet, the.event, n);
+    refusals += mesh_packet_decrypt(&the.packet, the.key, the.event, n, the.work, MOST, &the.counts);
+    the.key[1] = the.work[3];
 }
 
 /* an uplink of n bytes, from its bytes on */
 static void validated(size_t n)
 {
-    mesh_packet p;
-    mesh_lent lent = mesh_lent_frame(frame, n);
+    mesh_lent lent = mesh_lent_frame(the.frame, n);
     bool valid = false;
-    sum += mesh_packet_read_mesh(&p, frame, n);
-    sum += mesh_packet_validate(&p, key, &lent, &valid) + valid, key[1]++;
+    refusals += mesh_packet_read_mesh(&the.packet, the.frame, n);
+    refusals += mesh_packet_validate(&the.packet, the.key, &lent, &valid);
+    the.valid += valid;
+    the.key[1]++;
 }
 
-static void edited(size_t n) { sum += mesh_set_hop_count(key, frame, n, 1 + (frame[n - 1] & 7)), key[1] = frame[n - 2], add(frame + n - 4, 4); }
+static void edited(size_t n)
+{
+    refusals += mesh_set_hop_count(the.key, the.frame, n, 1 + (the.frame[n - 1] & 7));
+    the.key[1] = the.frame[n - 2];
+}
 
 static void read(void)
 {
-    mesh_packet p;
-    sum += mesh_packet_read(&p, frame, 64) + p.mic, frame[63]++;
+    refusals += mesh_packet_read(&the.packet, the.frame, 64);
+    the.frame[63]++;
 }
 
 static void wrote(void)
 {
-    mesh_packet p;
-    mesh_lent lent = mesh_lent_frame(frame, 64);
-    uint64_t length = 0;
-    sum += mesh_packet_read(&p, frame, 64) + mesh_packet_write(&p, &lent, work, MOST, &length) + length, frame[63]++;
+    mesh_lent lent = mesh_lent_frame(the.frame, 64);
+    refusals += mesh_packet_read(&the.packet, the.frame, 64);
+    refusals += mesh_packet_write(&the.packet, &lent, the.work, MOST, &the.length);
+    the.frame[63]++;
 }
 
 #define AT(what, n) static void what##_##n(void) { what(n); }
@@ -102,6 +138,6 @@ static const struct call calls[] = {
     {"read and written (mesh_write)", wrote, 3000, true},
 };
 
-static uint64_t answered(void) { return sum; }
+static uint64_t refused(void) { return refusals; }
 
-const struct side SIDE = {calls, sizeof calls / sizeof *calls, mesh_version, begin, answered};
+const struct side SIDE = {calls, sizeof calls / sizeof *calls, mesh_version, begin, refused, &the, sizeof the};

@@ -1,5 +1,6 @@
-/* What bench/turns asks of a library: calls under their names, each a closed piece of work that feeds the next, and a sum of all that they answer. */
+/* What bench/turns asks of a library: calls under their names, each feeding the next, and all that they leave. */
 #include <stdbool.h>
+#include <stddef.h>
 #include <stdint.h>
 
 struct call {
@@ -14,7 +15,9 @@ struct side {
     int count;
     uint32_t (*version)(void);
     void (*begin)(void);
-    uint64_t (*sum)(void);
+    uint64_t (*refused)(void);
+    const void *left;   /* what the calls left, to be compared */
+    size_t size;
 };
 
 extern const struct side after, before;

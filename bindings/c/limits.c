@@ -1593,7 +1593,7 @@ static void cipher(void) {
     mesh_mac(words, clear, 16, b);
     CHECK(untouched(words, MESH_CIPHER_WORDS * sizeof *words));
     free(words);
-    /* Who lends more, as a program of the time when there were 300, has the same cipher, and the rest as it was. */
+    /* Who lends more than is asked has the same cipher, and the rest as it was. */
     words = room(300 * sizeof *words);
     mesh_prepare(KEY, words);
     memcpy(b, clear, 16);

@@ -64,7 +64,8 @@ pub const TEXT_MOST: usize = 90;
 /// The version of the library's face that this crate is written for.
 pub const VERSION: u32 = sys::MESH_VERSION;
 
-/// The version of the face that the linked library has: [`VERSION`], or the archive is another one's and nothing else may be called.
+/// The version of the face that the linked library has: [`VERSION`], or the archive is another one's and nothing else may be called. Within a version
+/// a size may become smaller: so the archive is not older than the crate.
 pub fn version() -> u32 {
     raw::version()
 }

@@ -1,6 +1,6 @@
 // AES-128 (FIPS 197) by columns: a state is four words of 32 bits, the first byte of a column the highest. What a round does to one byte,
 // SubBytes and its part in MixColumns, is one word of a table; a round of a column is four of them, turned and added. The table is laid out
-// once for a key, with the key behind it; each round key is worked out from the last when its round comes, and one is kept.
+// once for a key, with the key behind it; one round key is in hand, and the next is worked out from it.
 ghost use mathlib.Core.Path.{_≡_};
 ghost use lib.ListN.{length, getD};
 ghost use Rattle.cipher.specs.inner.Words.{byteOf, turned, sub, column, lastColumn, loaded, firstKey, nextCols, keyed, stepped, lastStepped, bytesOf, teTable, keyWords, prepared, enciphered};
@@ -500,8 +500,8 @@ fn last_step(e: &Cipher, k: Cols, s: Cols) -> Cols
     }
 }
 
-// A block, under whatever was lent. Made by `prepare`, it is FIPS 197's cipher (Laws, prepared-agrees). The key in hand is that of the coming
-// round: worked out at the end of the last one, it takes the fewest temporaries.
+// A block, under whatever was lent. Made by `prepare`, it is FIPS 197's cipher (Laws, prepared-agrees). The key in hand, k, is that of the coming
+// round: so none is worked out while the state's old columns are still wanted, and the first does not wait for the block.
 pub fn encipher(e: &Cipher, block: [u8; 16]) -> [u8; 16]
     ensures { λ r. ⌜ r ≡ enciphered (now (e .entry)) block ⌝ }
 {
@@ -510,10 +510,8 @@ pub fn encipher(e: &Cipher, block: [u8; 16]) -> [u8; 16]
     let mut v: u8 = 2;
     let mut s = add_key(first, load(block));
     for i in 0usize..9 {
-        let t = step(e, k, s);
-        let n = next_cols(e, v, k);
-        s = t;
-        k = n;
+        s = step(e, k, s);
+        k = next_cols(e, v, k);
         v = times2(v);
     }
     unload(last_step(e, k, s))

@@ -58,13 +58,14 @@ sub e x = byteOf 1 (getD e x 0)
 unfoldable pub firstKey : List ℕ → Cols
 firstKey e = record { a = getD e 256 0; b = getD e 257 0; c = getD e 258 0; d = getD e 259 0 }
 
--- the round key after k, whose round constant is v
+-- the first column of the round key after k, from k's first and last, and its constant v
 unfoldable pub firstCol : List ℕ → ℕ → ℕ → ℕ → ℕ
 firstCol e v a d = bitXor a (word (bitXor (sub e (byteOf 1 d)) v) (sub e (byteOf 2 d)) (sub e (byteOf 3 d)) (sub e (byteOf 0 d)))
 
 abbrev pub colsFrom : ℕ → ℕ → ℕ → ℕ → Cols
 colsFrom a b c d = record { a = a; b = bitXor b a; c = bitXor c (bitXor b a); d = bitXor d (bitXor c (bitXor b a)) }
 
+-- the round key after k
 unfoldable pub nextCols : List ℕ → ℕ → Cols → Cols
 nextCols e v k = colsFrom (firstCol e v (k .a) (k .d)) (k .b) (k .c) (k .d)
 
