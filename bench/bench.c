@@ -395,7 +395,7 @@ int main(int count, char **words)
     printf("%-44s %9s %9s %8s\n", "ns, the least of 25 runs", "port", "OpenSSL", "ratio");
     row("a block, key ready", blocks, bulk, "EVP ECB, 256 blocks a call");
     row("a block, key ready", blocks, table, "AES_encrypt");
-    row("key and table laid out", expand, their_expand, "EVP_EncryptInit_ex, key alone");
+    row("key made ready: the table laid out", expand, their_expand, "EVP_EncryptInit_ex, key expanded");
     row("MIC of 14 bytes, key set each time", mac14, set14, "CMAC, context reused");
     row("MIC of 255 bytes, key set each time", mac255, set255, "CMAC, context reused");
     row("MIC of 14 bytes, key ready", ready14, same14, "CMAC, key kept");
