@@ -9,11 +9,12 @@ enum { MOST = 8192 };
 
 /* All that the calls are given and leave. */
 static struct {
-    uint8_t key[16], block[16], tag[16], frame[MOST], event[MOST], message[MOST], work[MOST];
+    uint8_t key[16], block[16], tag[16], frame[MOST], downlink[MOST], event[MOST], message[MOST], work[MOST];
     uint32_t words[MESH_CIPHER_WORDS];
     mesh_packet packet;
     mesh_counts counts;
     uint64_t length, valid;
+    uint32_t hertz;
 } the;
 
 /* A cipher of an archive that asks for more than this header, too. */
@@ -24,8 +25,9 @@ static void begin(void)
 {
     memset(&the, 0, sizeof the);
     for (int i = 0; i < 16; i++) the.key[i] = (uint8_t)(i * 7 + 1), the.block[i] = (uint8_t)i;
-    for (int i = 0; i < MOST; i++) the.message[i] = the.frame[i] = the.event[i] = (uint8_t)(i * 11 + 3);
-    the.frame[0] = 0xe0, the.event[0] = 0xf0;
+    for (int i = 0; i < MOST; i++) the.message[i] = the.frame[i] = the.downlink[i] = the.event[i] = (uint8_t)(i * 11 + 3);
+    the.frame[0] = 0xe0, the.downlink[0] = 0xe8, the.event[0] = 0xf0;
+    the.hertz = 2400000000;
     mesh_prepare(the.key, ready);
     refusals = 0;
 }
@@ -95,12 +97,21 @@ static void read(void)
     the.frame[63]++;
 }
 
-static void wrote(void)
+static void wrote(uint8_t *frame)
 {
-    mesh_lent lent = mesh_lent_frame(the.frame, 64);
-    refusals += mesh_packet_read(&the.packet, the.frame, 64);
+    mesh_lent lent = mesh_lent_frame(frame, 64);
+    refusals += mesh_packet_read(&the.packet, frame, 64);
     refusals += mesh_packet_write(&the.packet, &lent, the.work, MOST, &the.length);
-    the.frame[63]++;
+    frame[63]++;
+}
+
+static void wrote_uplink(void) { wrote(the.frame); }
+static void wrote_downlink(void) { wrote(the.downlink); }
+
+static void frequency(void)
+{
+    refusals += mesh_frequency_write(the.hertz, the.work);
+    the.hertz += 200;
 }
 
 #define AT(what, n) static void what##_##n(void) { what(n); }
@@ -135,7 +146,9 @@ static const struct call calls[] = {
     {"hop edit of 255 bytes", edited_255, 100, false},
     {"hop edit of 8,192 bytes", edited_8192, 4, false},
     {"an uplink of 64 bytes read (mesh_read)", read, 5000, true},
-    {"read and written (mesh_write)", wrote, 3000, true},
+    {"read and written (mesh_write)", wrote_uplink, 3000, true},
+    {"a downlink of 64 bytes read and written", wrote_downlink, 3000, true},
+    {"a frequency written (mesh_frequency_write)", frequency, 5000, false},
 };
 
 static uint64_t refused(void) { return refusals; }

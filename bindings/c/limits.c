@@ -435,6 +435,9 @@ static void writing(void) {
     FAULT(17, MESH_DOWNLINK, p.frequency = 1677721650);
     FAULT(17, MESH_DOWNLINK, p.frequency = UINT32_MAX);
     FAULT(18, MESH_DOWNLINK, p.frequency = 1);
+    FAULT(18, MESH_DOWNLINK, p.frequency = 2400000003);
+    FAULT(38, MESH_DOWNLINK, p.frequency = 1200000000);
+    FAULT(38, MESH_DOWNLINK, p.frequency = 2400000001);
     for (uint8_t kind = 0; kind < 4; kind++) {
         for (size_t i = 0; i < COUNT(FAR); i++) fault(45, at(kind, MESH_SEALED, FAR[i][0], FAR[i][1]), &l);
         fault(45, at(kind, MESH_SEALED, 0, 4), &l);
@@ -453,6 +456,9 @@ static void writing(void) {
         const mesh_lent big = mesh_lent_frame(b, 8200);
         const uint64_t most = 8192 - (kind == 0 ? 14u : kind == 1 ? 15u : 13u);
         fault(5, at(kind, MESH_SEALED, 1, most + 1), &big);
+        p = at(kind, MESH_SEALED, 1, most + 1);
+        p.frequency = 1200000000;
+        fault(kind == MESH_DOWNLINK ? 38 : 5, p, &big);
         p = at(kind, MESH_SEALED, 1, most);
         CHECK(do_write(false, &p, &big, 8191) == 21 && do_write(true, &p, &big, 8186) == 21);
         CHECK(do_write(false, &p, &big, 8192) == 0 && written_length == 8192);
@@ -932,9 +938,10 @@ static void sealing(void) {
     }
     p = at(MESH_COMMAND, MESH_ITEMS, 0, UINT64_MAX);
     CHECK(do_decrypt(&p, NULL, 0, NULL, 0) == 22 && do_decode(&p, NULL, 0, NULL, 0) == 255);
-    /* Nothing to do, in no room at all. */
+    /* Nothing to do, in no room at all; a frequency that is not written is not asked. */
     for (uint8_t kind = 0; kind < 4; kind++) {
         p = good(kind);
+        p.frequency = 1200000000;
         CHECK(do_seal(&p, &NONE, 0) == 0 && place_after[0] == 0 && place_after[2] == 0);
         CHECK(do_decrypt(&p, NULL, 0, NULL, 0) == 0 && counted(0, 0, 0, 0, 0, 1) && place_after[2] == 0);
         CHECK(do_decode(&p, NULL, 0, NULL, 0) == 0 && counted(0, 0, 0, 0, 0, 1) && place_after[2] == 0);
@@ -1471,14 +1478,14 @@ static uint8_t do_path(int16_t rssi, int8_t snr) {
     return r;
 }
 
-static uint8_t do_frequency(uint32_t hertz, uint32_t back_hertz) {
+static uint8_t do_frequency(uint32_t hertz) {
     uint8_t *b = room(3);
     uint8_t r = mesh_frequency_write(hertz, b);
     if (r) {
         CHECK(untouched(b, 3));
     } else {
         uint32_t *h = room(sizeof *h);
-        CHECK(mesh_frequency_read(b, 3, h) == 0 && *h == back_hertz);
+        CHECK(mesh_frequency_read(b, 3, h) == 0 && *h == hertz);
         free(h);
     }
     free(b);
@@ -1492,13 +1499,15 @@ static void metadata(void) {
     CHECK(do_downlink(4096, 16, 1, 16, 0) == 8 && do_downlink(4095, 16, 1, 16, 0) == 9 && do_downlink(4095, 15, 1, 16, 0) == 14);
     CHECK(do_downlink(4095, 15, 1, 16, 17) == 15 && do_downlink(4095, 15, 1, 15, 17) == 16);
     CHECK(do_downlink(4095, 15, 1677721650, 15, 16) == 17 && do_downlink(4095, 15, 1, 15, 16) == 18);
+    CHECK(do_downlink(4095, 15, 1200000000, 15, 17) == 16 && do_downlink(4095, 15, 1200000000, 15, 16) == 38);
     CHECK(do_downlink(4095, 15, 868100000, 15, 16) == 0 && do_downlink(0, 0, 0, 0, 1) == 0);
     CHECK(do_path(1, -33) == 10 && do_path(-256, -33) == 11 && do_path(-255, -33) == 12 && do_path(-255, 32) == 13);
     CHECK(do_path(-255, -32) == 0 && do_path(0, 31) == 0);
-    CHECK(do_frequency(1677721600, 0) == 17 && do_frequency(UINT32_MAX, 0) == 17 && do_frequency(1677721650, 0) == 17);
-    CHECK(do_frequency(1677721599, 0) == 18 && do_frequency(1, 0) == 18 && do_frequency(0, 0) == 0);
-    CHECK(do_frequency(868100000, 868100000) == 0 && do_frequency(2400000001, 2400000000) == 0);
-    CHECK(do_frequency(1677721500, 3355443000) == 0 && do_frequency(1200000000, 2400000000) == 0);
+    CHECK(do_frequency(1677721600) == 17 && do_frequency(UINT32_MAX) == 17 && do_frequency(1677721650) == 17 && do_frequency(3355443200) == 17);
+    CHECK(do_frequency(1677721599) == 18 && do_frequency(1) == 18 && do_frequency(2400000199) == 18 && do_frequency(3355443199) == 18);
+    CHECK(do_frequency(1200000000) == 38 && do_frequency(1677721500) == 38 && do_frequency(2400000001) == 38 && do_frequency(3355443001) == 38);
+    CHECK(do_frequency(0) == 0 && do_frequency(868100000) == 0 && do_frequency(1199999900) == 0);
+    CHECK(do_frequency(2400000000) == 0 && do_frequency(2400000200) == 0 && do_frequency(3355443000) == 0);
     for (size_t n = 0; n < 8; n++) {
         uint8_t *b = room(n);
         uint32_t *h = room(sizeof *h);
@@ -1824,6 +1833,7 @@ static const uint8_t REFUSALS[] = {
     MESH_FREQUENCY_LENGTH,
     MESH_TYPE_LARGE,
     MESH_LINE_DIGITS,
+    MESH_FREQUENCY_OTHER,
     MESH_OUTSIDE,
 };
 /* end */

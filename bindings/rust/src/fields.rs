@@ -128,7 +128,7 @@ pub struct DownlinkMetadata {
     pub uplink_id: u16,
     /// 0 to 15.
     pub dr: u8,
-    /// Hertz, as in [`encode_freq`].
+    /// Hertz: a frequency that [`encode_freq`] takes.
     pub frequency: u32,
     /// 0 to 15.
     pub tx_power: u8,
@@ -182,8 +182,9 @@ impl RelayPath {
     }
 }
 
-/// The three bytes of a frequency in hertz. From 2,400,000,000 up it is halved first; then [`Refusal::FrequencyLarge`],
-/// [`Refusal::FrequencyStep`].
+/// The three bytes of a frequency in hertz: a multiple of 100 under 1,200,000,000, or of 200 from 2,400,000,000 to 3,355,443,000. From
+/// 2,400,000,000 up it is halved first; then [`Refusal::FrequencyLarge`], [`Refusal::FrequencyStep`], and [`Refusal::FrequencyOther`] where
+/// [`decode_freq`] would give another.
 pub fn encode_freq(freq: u32) -> Result<[u8; 3], Refusal> {
     raw::frequency_write(freq)
 }

@@ -68,6 +68,8 @@ pub enum Refusal {
     TypeLarge = 29,
     /// The line has an odd count of digits, or a byte that is no hex digit.
     LineDigits = 30,
+    /// The frequency would be read as another.
+    FrequencyOther = 38,
     /// A run does not lie inside its buffer.
     Outside = 45,
 }
@@ -107,6 +109,7 @@ impl Refusal {
         Refusal::FrequencyLength,
         Refusal::TypeLarge,
         Refusal::LineDigits,
+        Refusal::FrequencyOther,
         Refusal::Outside,
     ];
 
@@ -142,6 +145,7 @@ impl Refusal {
             Refusal::FrequencyLength => "a frequency has 3 bytes",
             Refusal::TypeLarge => "the code of a type, of a content or of an item's kind is none, or a number is wider than its field",
             Refusal::LineDigits => "the line has an odd count of digits, or a byte that is no hex digit",
+            Refusal::FrequencyOther => "the frequency would be read as another",
             Refusal::Outside => "a run does not lie inside its buffer",
         }
     }

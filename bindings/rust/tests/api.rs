@@ -122,6 +122,7 @@ fn downlink_fields() {
         (16, |m| m.delay = 17),
         (17, |m| m.frequency = 1_677_721_600),
         (18, |m| m.frequency = 868_100_001),
+        (38, |m| m.frequency = 1_200_000_000),
     ] {
         let mut packet = downlink(&[1, 2, 3]);
         if let Payload::Downlink(p) = &mut packet.payload {
@@ -438,6 +439,7 @@ fn frequencies() {
     }
     assert_eq!(encode_freq(u32::MAX), Err(Refusal::FrequencyLarge));
     assert_eq!(encode_freq(50), Err(Refusal::FrequencyStep));
+    assert_eq!(encode_freq(1_200_000_000), Err(Refusal::FrequencyOther));
 }
 
 #[test]

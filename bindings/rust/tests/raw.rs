@@ -421,6 +421,10 @@ fn faults(p: P) -> Vec<(u8, P)> {
         list.push((17, P { frequency: u64::from(u32::MAX), ..p }));
         list.push((18, P { frequency: 1, ..p }));
         list.push((18, P { frequency: 868_100_001, ..p }));
+        list.push((18, P { frequency: 2_400_000_003, ..p }));
+        list.push((38, P { frequency: 1_200_000_000, ..p }));
+        list.push((38, P { frequency: 1_677_721_500, ..p }));
+        list.push((38, P { frequency: 2_400_000_001, ..p }));
     }
     list
 }
@@ -488,6 +492,7 @@ fn writing_at_the_most() {
         assert_eq!(write_body(&over, &l, 0), Err(5));
         assert_eq!(sign(&over, &KEY, &l), Err(5));
         assert_eq!(validate(&over, &KEY, &l), Err(5));
+        assert_eq!(sign(&P { frequency: 1_200_000_000, ..over }, &KEY, &l), Err(if kind == DOWNLINK { 38 } else { 5 }));
         assert_eq!(write(&p, &l, 8191), Err(21));
         assert_eq!(write_body(&p, &l, 8186), Err(21));
         let b = write(&p, &l, 8192).unwrap();
@@ -1131,6 +1136,9 @@ fn metadata() {
     assert_eq!(downlink(4095, 15, 1, 15, 17), 16);
     assert_eq!(downlink(4095, 15, 1_677_721_650, 15, 16), 17);
     assert_eq!(downlink(4095, 15, 1, 15, 16), 18);
+    assert_eq!(downlink(4095, 15, 1_200_000_000, 15, 17), 16);
+    assert_eq!(downlink(4095, 15, 1_200_000_000, 15, 16), 38);
+    assert_eq!(downlink(4095, 15, 2_400_000_000, 15, 16), 0);
     assert_eq!(downlink(4095, 15, 868_100_000, 15, 16), 0);
     assert_eq!(downlink(0, 0, 0, 0, 1), 0);
 }
@@ -1157,7 +1165,13 @@ fn frequencies() {
     assert_eq!(write(1_677_721_599).0, 18);
     assert_eq!(write(1).0, 18);
     assert_eq!(write(2_399_999_999).0, 17);
+    for hertz in [1_200_000_000, 1_677_721_500, 2_400_000_001, 3_355_443_001] {
+        assert_eq!(write(hertz).0, 38);
+    }
     assert_eq!(write(0), (0, [0; 3]));
+    assert_eq!(write(1_199_999_900), (0, [0xb7, 0x1a, 0xff]));
+    assert_eq!(write(2_400_000_000), (0, [0xb7, 0x1b, 0x00]));
+    assert_eq!(write(3_355_443_000), (0, [0xff; 3]));
 }
 
 #[test]

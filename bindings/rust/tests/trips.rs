@@ -47,8 +47,7 @@ fn payload<'a>(g: &mut Lcg, bytes: &'a [u8]) -> Payload<'a> {
             metadata: DownlinkMetadata {
                 uplink_id: g.to(4095) as u16,
                 dr: g.to(15) as u8,
-                // Below 1.2 GHz, from where on reading tells double.
-                frequency: g.to(11_999_999) * 100,
+                frequency: if g.to(1) == 0 { g.to(11_999_999) * 100 } else { 2_400_000_000 + g.to(4_777_215) * 200 },
                 tx_power: g.to(15) as u8,
                 delay: 1 + g.to(15) as u8,
             },
@@ -199,7 +198,6 @@ fn any_bytes() {
                 if let Payload::Uplink(_) = p.payload {
                     expected[4] &= 0x3f;
                 }
-                // And the frequency of a downlink from 1.2 GHz on is read as double, which is written as it was.
                 assert_eq!(p.to_vec(), Ok(expected));
                 let was_empty = matches!(&p.payload, Payload::Event(e) if e.events == Content::Empty)
                     || matches!(&p.payload, Payload::Command(c) if c.commands == Content::Empty)

@@ -21,10 +21,11 @@ fn p1_to_p3_uplink_metadata() {
 fn p4_to_p8_frequencies() {
     assert_eq!(encode_freq(868_100_000), Ok([0x84, 0x76, 0x28]));
     assert_eq!(decode_freq(&[0x84, 0x76, 0x28]), Ok(868_100_000));
-    assert_eq!(encode_freq(2_400_000_001), Ok([0xb7, 0x1b, 0x00]));
+    assert_eq!(encode_freq(2_400_000_001), Err(Refusal::FrequencyOther));
     assert_eq!(decode_freq(&[0xb7, 0x1b, 0x00]), Ok(2_400_000_000));
-    assert_eq!(encode_freq(1_200_000_000), Ok([0xb7, 0x1b, 0x00]));
-    assert_eq!(encode_freq(1_677_721_500), Ok([0xff, 0xff, 0xff]));
+    assert_eq!(encode_freq(1_200_000_000), Err(Refusal::FrequencyOther));
+    assert_eq!(encode_freq(1_677_721_500), Err(Refusal::FrequencyOther));
+    assert_eq!(encode_freq(1_677_721_500).unwrap_err().number(), 38);
     assert_eq!(decode_freq(&[0xff, 0xff, 0xff]), Ok(3_355_443_000));
     assert_eq!(encode_freq(1_677_721_650), Err(Refusal::FrequencyLarge));
     assert_eq!(encode_freq(1_677_721_650).unwrap_err().number(), 17);

@@ -91,6 +91,9 @@ typeLarge = 29
 abbrev pub lineDigits : ℕ
 lineDigits = 30
 
+abbrev pub frequencyOther : ℕ
+frequencyOther = 38
+
 abbrev pub outside : ℕ
 outside = 45
 

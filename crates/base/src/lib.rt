@@ -67,6 +67,8 @@ impl Refusal {
 
     pub const LINE_DIGITS: u8 = 30;
 
+    pub const FREQUENCY_OTHER: u8 = 38;
+
     pub const OUTSIDE: u8 = 45;
 }
 

@@ -45,15 +45,12 @@ relayIdLeast = 0
 abbrev pub relayIdMost : ℕ
 relayIdMost = 4294967295
 
--- hertz as they are read; the most that is written; and steps
+-- hertz, and steps
 abbrev pub hertzLeast : ℕ
 hertzLeast = 0
 
 abbrev pub hertzMost : ℕ
 hertzMost = 3355443000
-
-abbrev pub hertzWritten : ℕ
-hertzWritten = 3355443001
 
 abbrev pub stepsMost : ℕ
 stepsMost = 16777215

@@ -401,7 +401,6 @@ fn limits() {
     range(b"tx power                 ", p[0] as u64, p[1] as u64);
     let f = Frequency::limits();
     range(b"frequency                ", f[0] as u64, f[1] as u64);
-    range(b"frequency, written       ", f[0] as u64, f[2] as u64);
     words();
 }
 

@@ -22,7 +22,7 @@ use Rattle.fields.proofs.Laws.Bytes.{none, _▸_, small}
 use Rattle.base.proofs.Answers.{unless-bytes}
 use Rattle.fields.proofs.Laws.Meta.{signals, up-back, up-again, down-back, down-again}
 use Rattle.wire.specs.Run.{runRefusal, runBytes}
-use Rattle.links.specs.Read.{fourAt, uplinkAt, downlinkAt, heard}
+use Rattle.links.specs.Read.{fourAt, uplinkAt, downlinkAt}
 use Rattle.links.specs.Write.{followed, withRun, uplinkHead, downlinkHead}
 use Rattle.wire.specs.declared.run.Run.{Run}
 use Rattle.links.specs.declared.uplink.UplinkPayload.{UplinkPayload}
@@ -103,7 +103,7 @@ uplink-read-back p h v at e hc hr hv =
     ∙ ap (λ (n : ℕ). AnUplink (record { metadata = p .metadata; «relay_id» = p .«relay_id»; «phy_payload» = record { start = 9 + at; len = n } })) l
 
 pub downlink-read-back : (p : DownlinkPayload) (h v : List ℕ) (at : ℕ) → downlinkHead p ≡ bytes h → p .«relay_id» < 4294967296 → length v ≤ 8177
-    → downlinkAt at (h ++ v) ≡ ADownlink (record { metadata = heard (p .metadata) h; «relay_id» = p .«relay_id»; «phy_payload» = record { start = 10 + at; len = length v } })
+    → downlinkAt at (h ++ v) ≡ ADownlink (record { metadata = p .metadata; «relay_id» = p .«relay_id»; «phy_payload» = record { start = 10 + at; len = length v } })
 unfolding downlinkHead
 downlink-read-back p h v at e hr hv =
     let g = followed-bytes (downWire (p .metadata)) (beBytes 4 (p .«relay_id»)) h e in
@@ -112,11 +112,9 @@ downlink-read-back p h v at e hr hv =
     let r = beBytes 4 (p .«relay_id») in
     let b = from 6 0 (λ i. getD u i 0) ++ from 4 0 (λ i. getD r i 0) ++ v in
     let l : length b - 10 ≡ length v = omega arith in
-    let q = g .2 ∙ spelt 6 u (p .«relay_id») (k .0) in
-    let m : heard (p .metadata) h ≡ heard (p .metadata) u = ap (heard (p .metadata)) q in
-    ap (λ (x : List ℕ). downlinkAt at (x ++ v)) q
-    ∙ sym (downlink-is at b (omega arith) (omega arith) (heard (p .metadata) h) (p .«relay_id») (m ∙ sym (ap downOf (listed 6 u (k .0)) ∙ k .2)) (sym (four-is (p .«relay_id») hr)))
-    ∙ ap (λ (n : ℕ). ADownlink (record { metadata = heard (p .metadata) h; «relay_id» = p .«relay_id»; «phy_payload» = record { start = 10 + at; len = n } })) l
+    ap (λ (x : List ℕ). downlinkAt at (x ++ v)) (g .2 ∙ spelt 6 u (p .«relay_id») (k .0))
+    ∙ sym (downlink-is at b (omega arith) (omega arith) (p .metadata) (p .«relay_id») (sym (ap downOf (listed 6 u (k .0)) ∙ k .2)) (sym (four-is (p .«relay_id») hr)))
+    ∙ ap (λ (n : ℕ). ADownlink (record { metadata = p .metadata; «relay_id» = p .«relay_id»; «phy_payload» = record { start = 10 + at; len = n } })) l
 
 -- ---- writing what was read
 

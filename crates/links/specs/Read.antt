@@ -14,8 +14,6 @@ use Rattle.links.specs.declared.uplink.UplinkRead.the-variants.{Payload 
 use Rattle.links.specs.declared.downlink.DownlinkPayload.{DownlinkPayload}
 use Rattle.links.specs.declared.downlink.DownlinkRead.{DownlinkRead}
 use Rattle.links.specs.declared.downlink.DownlinkRead.the-variants.{Payload as ADownlink, Refused as NoDownlink}
-use Rattle.fields.specs.Freq.{hertzOf}
-use Rattle.fields.specs.declared.meta.DownlinkMetadata.{DownlinkMetadata}
 
 -- four bytes of b from i on
 abbrev pub fourAt : List ℕ → ℕ → ℕ
@@ -41,17 +39,6 @@ downlinkAt at b =
       «relay_id» = fourAt b 6;
       «phy_payload» = record { start = 10 + at; len = length b - 10 };
     })))
-
--- a downlink's metadata as they are read from the head that was written of them: its frequency is what its three bytes mean
-abbrev pub heard : DownlinkMetadata → List ℕ → DownlinkMetadata
-heard m h =
-    record {
-      «uplink_id» = m .«uplink_id»;
-      dr = m .dr;
-      frequency = hertzOf (getD h 2 0) (getD h 3 0) (getD h 4 0);
-      «tx_power» = m .«tx_power»;
-      delay = m .delay;
-    }
 
 -- the refusal's number, or the value
 abbrev pub uplinkSays : UplinkRead → Answer UplinkPayload

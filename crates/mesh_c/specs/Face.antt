@@ -48,7 +48,7 @@ use Rattle.cache_words.specs.inner.Packed.{addAnswer, addWords}
 
 -- the version of the declarations in include/mesh.h
 abbrev pub faceVersion : ℕ
-faceVersion = 3
+faceVersion = 4
 
 -- ---- keys, fields and items
 

@@ -26,8 +26,6 @@ use Rattle.items.specs.Items.{openingOf}
 use Rattle.items.proofs.Laws.{bytes-sum}
 use Rattle.composed_items.specs.Composed.{Lists}
 use Rattle.contents.specs.Content.{Lent, contentOf, contentBytes, framed}
-use Rattle.links.specs.Write.{downlinkHead}
-use Rattle.links.specs.Read.{heard}
 use Rattle.links.specs.declared.uplink.UplinkPayload.{UplinkPayload}
 use Rattle.links.specs.declared.downlink.DownlinkPayload.{DownlinkPayload}
 use Rattle.events.specs.declared.stamped.EventPayload.{EventPayload}
@@ -117,12 +115,10 @@ module _ (l : Lent) (w : List ℕ) (p : MeshPacket) (written : meshFrame l p ≡
       × (runBytes w (runAt 10 (length (runBytes (l .frame) (u .«phy_payload»)))) ≡ runBytes (l .frame) (u .«phy_payload»))
   uplink-written-then-read u k t c r = let b = uplink-back l w p written mic u k t c r in (ap meshSays (b .0), b .1)
 
-  -- a downlink's frequency is heard as `heard` says: from 2.4 GHz on in whole steps of 200 Hz, and from 1.2 GHz up to there as its double (P6)
   pub downlink-written-then-read : (u : DownlinkPayload) → p .payload ≡ payload.Downlink u → p .mhdr .«payload_type» ≡ Downlink → u .«relay_id» < 4294967296
-      → (h : List ℕ) × (downlinkHead u ≡ bytes h)
-      × (meshSays (meshOf w) ≡ value (carrying p (payload.Downlink (record { metadata = heard (u .metadata) h; «relay_id» = u .«relay_id»; «phy_payload» = runAt 11 (length (runBytes (l .frame) (u .«phy_payload»))) }))))
+      → (meshSays (meshOf w) ≡ value (carrying p (payload.Downlink (record { metadata = u .metadata; «relay_id» = u .«relay_id»; «phy_payload» = runAt 11 (length (runBytes (l .frame) (u .«phy_payload»))) }))))
       × (runBytes w (runAt 11 (length (runBytes (l .frame) (u .«phy_payload»)))) ≡ runBytes (l .frame) (u .«phy_payload»))
-  downlink-written-then-read u k t r = let b = downlink-back l w p written mic u k t r in (b .0, b .1, ap meshSays (b .2), b .3)
+  downlink-written-then-read u k t r = let b = downlink-back l w p written mic u k t r in (ap meshSays (b .0), b .1)
 
   pub event-written-then-read : (u : EventPayload) → p .payload ≡ payload.Event u → p .mhdr .«payload_type» ≡ Event → u .timestamp < 4294967296 → u .«relay_id» < 4294967296
       → (meshSays (meshOf w) ≡ value (carrying p (payload.Event (record { timestamp = u .timestamp; «relay_id» = u .«relay_id»; events = contentOf 9 (length (contentBytes true l (u .events))) }))))

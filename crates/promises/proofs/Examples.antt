@@ -8,7 +8,7 @@ use lib.IntN.{pos, negsuc}
 use Rattle.base.specs.Answers.{bytes, refused, value, number}
 use Rattle.wire.specs.Number.{beMore, beOf, beBytes}
 use Rattle.fields.specs.Header.{typeRead, headerOf, headerSays}
-use Rattle.fields.specs.Freq.{halvedOf, stepsOf, freqWire, hertzOf}
+use Rattle.fields.specs.Freq.{hertzOf, halvedOf, stepsOf, exactSteps, freqWire}
 use Rattle.fields.specs.Signal.{rssiOf, snrOf, snrByte, signalSays}
 use Rattle.fields.specs.Meta.{upOf}
 use Rattle.fields.specs.declared.header.PayloadType.the-variants.{Command}
@@ -55,9 +55,9 @@ pub twelve :
     × (upOf (0xff ∷ 0xff ∷ 0xff ∷ 0x20 ∷ 0xff ∷ []) ≡ record { «uplink_id» = 4095; dr = 15; rssi = negsuc 254; snr = negsuc 31; channel = 255 })
     × (snrOf 0xff ≡ negsuc 0) × (signalSays (snrByte (negsuc 0)) ≡ value 0x3f)
     × (freqWire 868100000 ≡ bytes (0x84 ∷ 0x76 ∷ 0x28 ∷ []))
-    × (freqWire 2400000001 ≡ bytes (0xb7 ∷ 0x1b ∷ 0x00 ∷ [])) × (hertzOf 0xb7 0x1b 0x00 ≡ 2400000000)
-    × (freqWire 1200000000 ≡ bytes (0xb7 ∷ 0x1b ∷ 0x00 ∷ []))
-    × (freqWire 1677721500 ≡ bytes (0xff ∷ 0xff ∷ 0xff ∷ [])) × (hertzOf 0xff 0xff 0xff ≡ 3355443000)
+    × (freqWire 2400000001 ≡ refused 38) × (hertzOf 0xb7 0x1b 0x00 ≡ 2400000000)
+    × (freqWire 1200000000 ≡ refused 38)
+    × (freqWire 1677721500 ≡ refused 38) × (hertzOf 0xff 0xff 0xff ≡ 3355443000)
     × (freqWire 1677721650 ≡ refused 17)
     × (headerSays (headerOf 0xff) ≡ value (record { «payload_type» = Command; «hop_count» = 8 }))
     × (headerSays (headerOf 0xdf) ≡ number 3)
@@ -66,5 +66,5 @@ pub twelve :
     × (openingOf false items ≡ record { kept = 3; skipped = 0; «kept_bytes» = 13; «skipped_bytes» = 0; «cut_bytes» = 3; clean = false })
     × ((A B C : PayloadCache) → (A ≡ B → ⊥) → (A ≡ C → ⊥) → (B ≡ C → ⊥)
     → map addSays (ringAnswers (newOf 2 .cache) (A ∷ B ∷ A ∷ C ∷ A ∷ B ∷ [])) ≡ value true ∷ value true ∷ value false ∷ value true ∷ value true ∷ value true ∷ [])
-unfolding beMore beOf beBytes typeRead headerOf halvedOf stepsOf hertzOf rssiOf snrOf snrByte openingOf pieces badBeat
+unfolding beMore beOf beBytes typeRead headerOf hertzOf halvedOf stepsOf exactSteps rssiOf snrOf snrByte openingOf pieces badBeat
 twelve = (refl, refl, refl, refl, refl, refl, refl, refl, refl, refl, refl, refl, refl, refl, refl, refl, p12)

@@ -16,7 +16,7 @@ use Rattle.base.specs.Answers.{Answer, value, number, numberIn, Writing, bytes,
 use Rattle.wire.specs.Part.{reachOf}
 use Rattle.keys.specs.Key.{keyFromSlice, keyFromText, keySays}
 use Rattle.fields.specs.Header.{typeRead, typed, headerOf, headerByte, typeSays, headerSays, byteSays}
-use Rattle.fields.specs.Freq.{halvedOf, stepsOf, stepsWire, freqWire, freqBytes, freqRead, stepsSays, freqSays}
+use Rattle.fields.specs.Freq.{hertzIn, freqRead, halvedOf, stepsOf, unlessOther, exactSteps, stepsWire, freqWire, freqBytes, stepsSays, freqSays}
 use Rattle.fields.specs.Signal.{rssiByte, snrByte, signalSays}
 use Rattle.fields.specs.Meta.{idBytes, idRefusal, afterSnr, afterRssi, upWire, upBytes, downRefusal, afterFreq, downWire, downBytes}
 use Rattle.fields.specs.Path.{pathWire, pathBytes, badEntry}
@@ -164,16 +164,20 @@ header-byte : (h : MHDR) → Numbered (byteSays (headerByte h))
 unfolding headerByte
 header-byte h = picked byteSays (ltb (h .«hop_count») 1) _ _ (omega arith) (picked byteSays (ltb 8 (h .«hop_count»)) _ _ (omega arith) tt)
 
-steps : (f : ℕ) → Numbered (stepsSays (stepsOf f))
-unfolding stepsOf
-steps f = picked stepsSays (ltb 16777215 (halvedOf f / 100)) _ _ (omega arith) (picked stepsSays (eqb (halvedOf f % 100) 0) _ _ tt (omega arith))
+other : (f : ℕ) (x : StepsRead) → Numbered (stepsSays x) → Numbered (stepsSays (unlessOther f x))
+other f (StepsAre n) s = picked stepsSays (eqb (hertzIn (beBytes 3 n)) f) _ _ tt (omega arith)
+other f (NoSteps n) s = s
+
+steps : (f : ℕ) → Numbered (stepsSays (exactSteps f))
+unfolding exactSteps stepsOf
+steps f = other f (stepsOf f) (picked stepsSays (ltb 16777215 (halvedOf f / 100)) _ _ (omega arith) (picked stepsSays (eqb (halvedOf f % 100) 0) _ _ tt (omega arith)))
 
 frequency-by : (x : StepsRead) → Numbered (stepsSays x) → Numbered (frameSays (stepsWire x))
 frequency-by (StepsAre n) s = tt
 frequency-by (NoSteps n) s = s
 
 frequency-wire : (f : ℕ) → Numbered (frameSays (freqWire f))
-frequency-wire f = frequency-by (stepsOf f) (steps f)
+frequency-wire f = frequency-by (exactSteps f) (steps f)
 
 frequency-read : (s : List ℕ) → Numbered (freqSays (freqRead s))
 unfolding freqRead
@@ -612,7 +616,7 @@ pub record NoZero : Type 0 where
   pub type-from-byte : (n : ℕ) → Numbered (typeSays (typeRead n))
   pub header-from-byte : (b : ℕ) → Numbered (headerSays (headerOf b))
   pub header-to-byte : (h : MHDR) → Numbered (byteSays (headerByte h))
-  pub in-steps : (hertz : ℕ) → Numbered (stepsSays (stepsOf hertz))
+  pub in-steps : (hertz : ℕ) → Numbered (stepsSays (exactSteps hertz))
   pub encode-freq : (hertz : ℕ) → Numbered (checkedSays (freqBytes hertz .answer) (freqBytes hertz .bytes))
   pub decode-freq : (s : List ℕ) → Numbered (freqSays (freqRead s))
   pub rssi-to-byte : (x : ℤ) → Numbered (signalSays (rssiByte x))

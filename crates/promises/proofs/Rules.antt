@@ -3,6 +3,7 @@ use Prim.Native.Nat.{ℕ, zero, suc, _+_, _-_, _*_, _/_, _%_, _≤_, _<_}
 use native.Mathlib.Omega.{arith}
 use mathlib.Core.Bool.{Bool, true, false, not}
 use mathlib.Core.Path.{_≡_, refl, sym, ap, _∙_}
+use mathlib.Core.Logic.{_⊎_, inl, inr}
 use lib.Dec.{ltb, leb, eqb}
 use mathlib.Core.List.{List, [], _∷_}
 use lib.IntN.{ℤ, pos, negℤ}
@@ -10,9 +11,12 @@ use lib.ListN.{length, getD, take, drop, replicate}
 use borrow.Author.Tests.{lt-ltb, le-ltb, le-leb, lt-leb, leb-true, leb-false, eq-eqb, ne-eqb, eqb-true}
 use Rattle.base.specs.Pick.{pick}
 use Rattle.base.specs.Lists.{Bytes}
+use Rattle.base.proofs.Lists.{listed}
 use Rattle.base.specs.Blocks.{Block}
-use Rattle.base.specs.Numbers.{hopsNone, hopsMany, notMesh, typeLarge, keyLength, keyDigit, frequencyLarge, frequencyStep, frequencyLength, bodyShort, cacheSize, itemLong, heartbeatLength, outputShort, outside}
+use Rattle.base.specs.Numbers.{hopsNone, hopsMany, notMesh, typeLarge, keyLength, keyDigit, frequencyLarge, frequencyStep, frequencyLength, frequencyOther, bodyShort, cacheSize, itemLong, heartbeatLength, outputShort, outside}
 use Rattle.base.specs.Answers.{value, number, bytes, refused, checkedSays}
+use Rattle.wire.specs.Number.{beOf, beBytes}
+use Rattle.wire.proofs.Laws.Number.{be-lt}
 use Rattle.wire.specs.Hex.{allHex, unhex, hexText}
 use Rattle.wire.specs.Run.{runAt, runRefusal, runBytes}
 use Rattle.wire.specs.declared.run.Run.{Run}
@@ -21,21 +25,22 @@ use Rattle.keys.specs.Key.{keyOf, keySays, keyFromSlice, keyFromText}
 use Rattle.derivation.specs.Derived.{signingKey, encryptionKey}
 use Rattle.keys.proofs.Laws.{text-back}
 use Rattle.fields.specs.Header.{typeRead, codeOf, headerOf, headerByte, typeSays, headerSays, byteSays}
-use Rattle.fields.specs.Freq.{halvedOf, stepsAt, stepsOf, freqWire, scaled, hertzOf, freqRead, freqSays, stepsSays}
-use Rattle.fields.specs.declared.freq.StepsRead.the-variants as steps
-use Rattle.fields.specs.Limits.{hertzLeast, hertzWritten, stepsMost}
+use Rattle.fields.specs.Freq.{scaled, hertzOf, hertzIn, freqRead, halvedOf, stepsOf, exactSteps, freqWire, freqSays, stepsSays}
+use Rattle.fields.specs.declared.freq.FreqRead.the-variants as freq
+use Rattle.fields.specs.Limits.{hertzMost}
 use Rattle.fields.specs.Signal.{rssiOf, rssiByte, snrOf, snrByte, signalSays}
 use Rattle.fields.specs.Meta.{upOf, upWire, downOf, downWire}
 use Rattle.fields.specs.Path.{pathOf, pathWire}
 use Rattle.fields.specs.declared.header.MHDR.{MHDR}
 use Rattle.fields.specs.declared.header.PayloadType.{PayloadType}
 use Rattle.fields.specs.declared.meta.UplinkMetadata.{UplinkMetadata}
+use Rattle.fields.specs.declared.meta.DownlinkMetadata.{DownlinkMetadata}
 use Rattle.fields.specs.declared.path.RelayPath.{RelayPath}
 use Rattle.fields.proofs.Laws.Header.{type-back, header-back, header-again, not-marked}
-use Rattle.fields.proofs.Laws.Freq.{freq-again}
-use Rattle.fields.proofs.Laws.Limits.{written-within, both-written}
+use Rattle.fields.proofs.Laws.Bytes.{none, _▸_, small}
+use Rattle.fields.proofs.Laws.Freq.{bytes-scaled, freq-of-scaled, freq-again, freq-steps, freq-length, freq-bytes}
 use Rattle.fields.proofs.Laws.Signal.{rssi-back, rssi-again, snr-back, snr-again}
-use Rattle.fields.proofs.Laws.Meta.{up-back, up-again, down-again}
+use Rattle.fields.proofs.Laws.Meta.{up-back, up-again, down-back, down-again}
 use Rattle.fields.proofs.Laws.Path.{path-back, path-again}
 use Rattle.heartbeats.specs.Heartbeat.{pathsOf, beatRefusal, beatOf, entryRead, beatWire, beatSays, pathSays, noPath, FourByteIds}
 use Rattle.heartbeats.specs.declared.heartbeat.HeartbeatPayload.{HeartbeatPayload}
@@ -53,7 +58,7 @@ use Rattle.packets.specs.Read.{meshOf, meshSays}
 use Rattle.round_trips.specs.Which.{leastFrame, meshNumber}
 use Rattle.cache.specs.inner.Ring.{newOf}
 use Rattle.promises.specs.Said.{Accepts}
-use Rattle.promises.proofs.Said.{header-said, byte-said, signal-said, steps-said, item-said}
+use Rattle.promises.proofs.Said.{header-said, byte-said, signal-said, item-said}
 use Rattle.promises.proofs.Demand2.{mesh-reader-reads, mesh-reader-refuses}
 
 -- ---- the header byte
@@ -108,59 +113,102 @@ pub snr-written-then-read : (x : ℤ) (b : ℕ) → signalSays (snrByte x) ≡ v
 snr-written-then-read x b e = snr-back x b (signal-said (snrByte x) b e)
 
 -- 5.12: of a frequency f below 2.4 GHz, and from there up of its half
-pub frequency-too-large : (f : ℕ) → 16777215 < halvedOf f / 100 → stepsSays (stepsOf f) ≡ number frequencyLarge
-unfolding stepsOf
+pub frequency-too-large : (f : ℕ) → 16777215 < halvedOf f / 100 → stepsSays (exactSteps f) ≡ number frequencyLarge
+unfolding exactSteps stepsOf
 frequency-too-large f h = simp (lt-ltb 16777215 (halvedOf f / 100) h)
 
-pub frequency-no-step : (f : ℕ) → halvedOf f / 100 ≤ 16777215 → (halvedOf f % 100 ≡ 0 → ⊥) → stepsSays (stepsOf f) ≡ number frequencyStep
-unfolding stepsOf
+pub frequency-no-step : (f : ℕ) → halvedOf f / 100 ≤ 16777215 → (halvedOf f % 100 ≡ 0 → ⊥) → stepsSays (exactSteps f) ≡ number frequencyStep
+unfolding exactSteps stepsOf
 frequency-no-step f h e = simp (le-ltb 16777215 (halvedOf f / 100) h, ne-eqb (halvedOf f % 100) 0 e)
 
--- what is written lies up to 3,355,443,001 Hz, 1 Hz over the most that is read, and both ends are written
-pub frequency-written-within : (f n : ℕ) → stepsSays (stepsOf f) ≡ value n → f ≤ hertzWritten
-frequency-written-within f n e = written-within f n (steps-said (stepsOf f) n e)
+-- 5.14: of what is left, 38 where the three bytes are read as another, and else it is written
+module _ (f : ℕ) (fits : halvedOf f / 100 ≤ 16777215) (whole : halvedOf f % 100 ≡ 0) where
+  pub frequency-other : (hertzIn (beBytes 3 (halvedOf f / 100)) ≡ f → ⊥) → stepsSays (exactSteps f) ≡ number frequencyOther
+  unfolding exactSteps stepsOf
+  frequency-other h =
+      simp (le-ltb 16777215 (halvedOf f / 100) fits, eq-eqb (halvedOf f % 100) 0 whole, ne-eqb (hertzIn (beBytes 3 (halvedOf f / 100))) f h)
 
-pub frequency-ends-written : (stepsSays (stepsOf hertzLeast) ≡ value 0) × (stepsSays (stepsOf hertzWritten) ≡ value stepsMost)
-frequency-ends-written = (ap stepsSays (both-written .0), ap stepsSays (both-written .1))
+  pub frequency-written : hertzIn (beBytes 3 (halvedOf f / 100)) ≡ f → stepsSays (exactSteps f) ≡ value (halvedOf f / 100)
+  unfolding exactSteps stepsOf
+  frequency-written h =
+      simp (le-ltb 16777215 (halvedOf f / 100) fits, eq-eqb (halvedOf f % 100) 0 whole, eq-eqb (hertzIn (beBytes 3 (halvedOf f / 100))) f h)
 
--- 5.14: n steps, written of f, are read as f below 1.2 GHz, as twice f from there up to 2.4 GHz, and from there up as f without a half left over
-pub frequency-written-then-read : (f n : ℕ) → stepsSays (stepsOf f) ≡ value n
-    → scaled n ≡ pick (leb 2400000000 f) (f / 2 * 2) (pick (leb 1200000000 f) (f * 2) f)
-unfolding stepsOf halvedOf
-frequency-written-then-read f n e = by (leb 2400000000 f) refl (steps-said (stepsOf f) n e)
+-- which are those: whole steps from 1.2 GHz up to the most, which would be read as their double, ..
+pub frequency-doubled : (f : ℕ) → 1200000000 ≤ f → f ≤ 1677721500 → f % 100 ≡ 0 → stepsSays (exactSteps f) ≡ number frequencyOther
+unfolding halvedOf
+frequency-doubled f l m w =
+    let g : halvedOf f ≡ f = simp (lt-leb 2400000000 f (omega arith)) in
+    let d : halvedOf f / 100 ≡ f / 100 = ap (λ (x : ℕ). x / 100) g in
+    frequency-other f (rw d (omega arith)) (rw g w)
+    (λ e. let r : f / 100 * 200 ≡ f = sym (bytes-scaled (f / 100) (omega arith) ∙ simp (le-leb 12000000 (f / 100) (omega arith))) ∙ ap (λ (x : ℕ). hertzIn (beBytes 3 x)) (sym d) ∙ e in omega arith)
+
+-- .. and from 2.4 GHz on those whose half is cut
+pub frequency-cut : (f : ℕ) → 2400000000 ≤ f → f ≤ 3355443001 → f % 200 ≡ 1 → stepsSays (exactSteps f) ≡ number frequencyOther
+unfolding halvedOf
+frequency-cut f l m w =
+    let g : halvedOf f ≡ f / 2 = simp (le-leb 2400000000 f l) in
+    let d : halvedOf f / 100 ≡ f / 200 = ap (λ (x : ℕ). x / 100) g ∙ omega arith in
+    let z : f / 2 % 100 ≡ 0 = omega arith in
+    frequency-other f (rw d (omega arith)) (rw g z)
+    (λ e. let r : f / 200 * 200 ≡ f = sym (bytes-scaled (f / 200) (omega arith) ∙ simp (le-leb 12000000 (f / 200) (omega arith))) ∙ ap (λ (x : ℕ). hertzIn (beBytes 3 x)) (sym d) ∙ e in omega arith)
+
+-- what is written is read as it was; three bytes, read and written, are the same bytes
+pub frequency-written-then-read : (f : ℕ) (w : List ℕ) → freqWire f ≡ bytes w → freqSays (freqRead w) ≡ value f
+unfolding freqRead
+frequency-written-then-read f w e = simp (eq-eqb (length w) 3 (freq-length f w e)) (ap value (freq-steps f w e .2))
+
+pub frequency-read-then-written : (s : List ℕ) (f : ℕ) → Bytes s → freqSays (freqRead s) ≡ value f → freqWire f ≡ bytes s
+unfolding freqRead
+frequency-read-then-written s f h e = by (eqb (length s) 3) refl e
   where
-    whole : (g : ℕ) → stepsAt g ≡ steps.Steps n → g ≡ n * 100
-    whole g z = of (ltb 16777215 (g / 100)) (eqb (g % 100) 0) refl refl z
-      where
-        of : (t u : Bool) → ltb 16777215 (g / 100) ≡ t → eqb (g % 100) 0 ≡ u
-            → pick t (steps.Refused frequencyLarge) (pick u (steps.Steps (g / 100)) (steps.Refused frequencyStep)) ≡ steps.Steps n → g ≡ n * 100
-        of true u p q z = let w : _≡_ {A = ℕ} 0 1 = cc in absurd (omega arith)
-        of false true p q z =
-            let d : g / 100 ≡ n = cc in
-            let m : g % 100 ≡ 0 = eqb-true (g % 100) 0 q in
-            omega arith
-        of false false p q z = let w : _≡_ {A = ℕ} 0 1 = cc in absurd (omega arith)
+    by : (t : Bool) → eqb (length s) 3 ≡ t → freqSays (pick t (freq.Hertz (hertzIn s)) (freq.Refused frequencyLength)) ≡ value f → freqWire f ≡ bytes s
+    by true p q =
+        let v : hertzIn s ≡ f = cc in
+        ap freqWire (sym v) ∙ freq-again (getD s 0 0) (getD s 1 0) (getD s 2 0) (h 0) (h 1) (h 2) ∙ ap bytes (listed 3 s (eqb-true (length s) 3 p))
+    by false p q = let z : _≡_ {A = ℕ} 0 1 = cc in absurd (omega arith)
 
-    low : (t : Bool) → leb 1200000000 f ≡ t → f ≡ n * 100 → scaled n ≡ pick t (f * 2) f
-    low true p d =
-        let l : 1200000000 ≤ f = leb-true 1200000000 f p in
-        rw (le-leb 12000000 n (omega arith)) (omega arith)
-    low false p d =
-        let l : f < 1200000000 = leb-false 1200000000 f p in
-        rw (lt-leb 12000000 n (omega arith)) (omega arith)
+-- so reading is one to one, and onto what is written: a frequency is written exactly if some bytes are read as it
+pub frequency-read-of-one : (s t : List ℕ) (f : ℕ) → Bytes s → Bytes t → freqSays (freqRead s) ≡ value f → freqSays (freqRead t) ≡ value f → s ≡ t
+frequency-read-of-one s t f h k d e = let z : bytes s ≡ bytes t = sym (frequency-read-then-written s f h d) ∙ frequency-read-then-written t f k e in cc
 
-    by : (t : Bool) → leb 2400000000 f ≡ t → stepsAt (pick t (f / 2) f) ≡ steps.Steps n
-        → scaled n ≡ pick t (f / 2 * 2) (pick (leb 1200000000 f) (f * 2) f)
-    by true p z =
-        let l : 2400000000 ≤ f = leb-true 2400000000 f p in
-        let d : f / 2 ≡ n * 100 = whole (f / 2) z in
-        rw (le-leb 12000000 n (omega arith)) (omega arith)
-    by false p z = low (leb 1200000000 f) refl (whole f z)
+pub frequency-written-if-read : (f : ℕ)
+    → ((w : List ℕ) × (freqWire f ≡ bytes w) → (s : List ℕ) × (Bytes s) × (freqSays (freqRead s) ≡ value f))
+    × ((s : List ℕ) × (Bytes s) × (freqSays (freqRead s) ≡ value f) → (w : List ℕ) × (freqWire f ≡ bytes w))
+frequency-written-if-read f =
+    (λ a. (a .0, freq-bytes f (a .0) (a .1), frequency-written-then-read f (a .0) (a .1)), λ a. (a .0, frequency-read-then-written (a .0) f (a .1) (a .2)))
 
--- three bytes of frequency, read and written, are the same bytes; 3.28
-pub frequency-read-then-written : (a b c : ℕ) → a < 256 → b < 256 → c < 256 → freqWire (hertzOf a b c) ≡ bytes (a ∷ b ∷ c ∷ [])
-frequency-read-then-written = freq-again
+-- 6.2: these are whole 100 Hz under 1.2 GHz, and whole 200 Hz from 2.4 GHz to the most
+abbrev pub InBand : ℕ → Type 0
+InBand f = ((f < 1200000000) × (f % 100 ≡ 0)) ⊎ ((2400000000 ≤ f) × (f ≤ hertzMost) × (f % 200 ≡ 0))
 
+pub frequency-bands : (f : ℕ) → ((w : List ℕ) × (freqWire f ≡ bytes w) → InBand f) × (InBand f → (w : List ℕ) × (freqWire f ≡ bytes w))
+unfolding hertzOf
+frequency-bands f = (λ a. band (a .0) (a .1), written)
+  where
+    of : (n : ℕ) → n < 16777216 → (t : Bool) → leb 12000000 n ≡ t → pick t (n * 200) (n * 100) ≡ f → InBand f
+    of n l true p e = let m = leb-true 12000000 n p in inr (omega arith, omega arith, omega arith)
+    of n l false p e = let m = leb-false 12000000 n p in inl (omega arith, omega arith)
+
+    band : (w : List ℕ) → freqWire f ≡ bytes w → InBand f
+    band w e =
+        let b = freq-bytes f w e in
+        let x = getD w 0 0 ∷ getD w 1 0 ∷ getD w 2 0 ∷ [] in
+        of (beOf x) (be-lt x (small (b 0 ▸ b 1 ▸ b 2 ▸ none))) (leb 12000000 (beOf x)) refl (freq-steps f w e .2)
+
+    written : InBand f → (w : List ℕ) × (freqWire f ≡ bytes w)
+    written (inl a) =
+        let l = a .0 in
+        let m = a .1 in
+        let s : scaled (f / 100) ≡ f = simp (lt-leb 12000000 (f / 100) (omega arith)) (omega arith) in
+        (beBytes 3 (f / 100), ap freqWire (sym s) ∙ freq-of-scaled (f / 100) (omega arith))
+    written (inr a) =
+        let l = a .0 in
+        let m = a .1 in
+        let n = a .2 in
+        let s : scaled (f / 200) ≡ f = simp (le-leb 12000000 (f / 200) (omega arith)) (omega arith) in
+        (beBytes 3 (f / 200), ap freqWire (sym s) ∙ freq-of-scaled (f / 200) (omega arith))
+
+-- 3.28
 pub frequency-not-three-bytes : (s : List ℕ) → (length s ≡ 3 → ⊥) → freqSays (freqRead s) ≡ number frequencyLength
 unfolding freqRead
 frequency-not-three-bytes s h = simp (ne-eqb (length s) 3 h)
@@ -177,6 +225,9 @@ uplink-metadata-written-then-read m w h e = up-back m w h e .2
 pub downlink-metadata-read-then-written : (b : List ℕ) → length b ≡ 6 → Bytes b
     → downWire (downOf b) ≡ bytes (getD b 0 0 ∷ getD b 1 0 ∷ getD b 2 0 ∷ getD b 3 0 ∷ getD b 4 0 ∷ getD b 5 0 ∷ [])
 downlink-metadata-read-then-written = down-again
+
+pub downlink-metadata-written-then-read : (m : DownlinkMetadata) (w : List ℕ) → downWire m ≡ bytes w → downOf w ≡ m
+downlink-metadata-written-then-read m w e = down-back m w e .2
 
 pub path-entry-read-then-written : (b : List ℕ) → length b ≡ 6 → Bytes b
     → pathWire (pathOf b) ≡ bytes (getD b 0 0 ∷ getD b 1 0 ∷ getD b 2 0 ∷ getD b 3 0 ∷ getD b 4 0 ∷ (getD b 5 0 % 64) ∷ [])

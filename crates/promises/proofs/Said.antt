@@ -56,9 +56,9 @@ pub signal-said : (r : SignalByte) (b : ℕ) → signalSays r ≡ value b → r 
 signal-said (signal.Byte k) b e = cc
 signal-said (signal.Refused n) b e = absurd (never (cc))
 
-pub steps-said : (r : StepsRead) (n : ℕ) → stepsSays r ≡ value n → r ≡ steps.Steps n
-steps-said (steps.Steps k) n e = cc
-steps-said (steps.Refused k) n e = absurd (never (cc))
+pub steps-refused : (r : StepsRead) (n : ℕ) → stepsSays r ≡ number n → r ≡ steps.Refused n
+steps-refused (steps.Steps k) n e = absurd (never (cc))
+steps-refused (steps.Refused k) n e = cc
 
 pub item-said : (r : ItemRead) (i : Item) (next : ℕ) → itemSays r ≡ value (keptItem i next) → r ≡ item.Kept i next
 item-said (item.Kept j k) i next e = cc

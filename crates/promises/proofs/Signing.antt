@@ -10,7 +10,7 @@ use Rattle.base.specs.Pick.{pick}
 use borrow.Author.Tests.{eq-eqb, ne-eqb, eqb-true, eqb-false}
 use Rattle.base.specs.Numbers.{micMissing, typeLarge}
 use Rattle.base.specs.Lists.{orElse}
-use Rattle.base.proofs.Answers.{is-refused}
+use Rattle.base.proofs.Answers.{is-refused, not-refused}
 use Rattle.base.specs.Answers.{value, number, Writing, bytes, refused, unlessRefused, frameNumber, numberIn, answerOf, writtenSays}
 use Rattle.wire.specs.Number.{beBytes}
 use Rattle.composed_items.specs.Composed.{verdictOf}
@@ -18,10 +18,17 @@ use Rattle.composed_items.proofs.Laws.{kinds-29}
 use Rattle.contents.specs.Content.{Lent, contentKinds, contentRefusal, contentWire}
 use Rattle.contents.specs.declared.content.Content.{Content}
 use Rattle.contents.specs.declared.content.Content.the-variants.{Empty, Sealed, Open, Items}
-use Rattle.links.specs.Write.{headedBy, limitedOf, withMic}
+use Rattle.wire.specs.Run.{runRefusal, runBytes}
+use Rattle.fields.specs.Header.{headerByte, byteSays}
+use Rattle.fields.specs.Freq.{exactSteps, stepsWire, stepsSays}
+use Rattle.fields.specs.Meta.{downRefusal, afterFreq, downWire}
+use Rattle.fields.specs.declared.header.HeaderByte.{HeaderByte}
+use Rattle.fields.specs.declared.freq.StepsRead.{StepsRead}
+use Rattle.links.specs.Write.{followed, headedBy, limitedOf, withMic, downlinkHead, downlinkWire}
+use Rattle.links.specs.declared.downlink.DownlinkPayload.{DownlinkPayload}
 use Rattle.events.specs.Write.{stamp, stampedWire, eventWire, commandWire}
 use Rattle.packets.specs.Read.{meshSays}
-use Rattle.packets.specs.Write.{payloadWire, payloadKinds, kindsIn, messageOf, meshFrame}
+use Rattle.packets.specs.Write.{payloadWire, payloadKinds, kindsIn, behind, messageOf, meshFrame}
 use Rattle.packets.proofs.Laws.{message-strange, strange-29}
 use Rattle.packets.specs.declared.mesh.Payload.{Payload}
 use Rattle.packets.specs.declared.mesh.Payload.the-variants as payload
@@ -30,7 +37,7 @@ use Rattle.packets.specs.declared.mesh.MeshRead.the-variants.{Mesh}
 use Rattle.sealing.specs.Seal.{contentSeal, eventSeal, eventSealed, commandSeal, commandSealed}
 use Rattle.sealing.specs.Mesh.{ofEventSealed, ofCommandSealed, meshSealed}
 use Rattle.mic.specs.declared.Validated.the-variants.{Valid, Invalid, Refused as NotValidated}
-use Rattle.promises.proofs.Said.{mesh-said}
+use Rattle.promises.proofs.Said.{byte-said, steps-refused, mesh-said}
 use Rattle.mic.specs.Mic.{micOf, fitting, signedOf, carryingMic, signedBy, setMic, comparedBy, validateMic, validSays}
 
 -- 10.1: what is signed is what is written before the MIC
@@ -131,6 +138,44 @@ validating-refuses-as-signing E l p e = by (eqb (kindsIn l p) 0) refl
         ≡ numberIn (meshSays (signedBy E p (fitting (messageOf l p))))
     by true q = simp e (validating-by E (p .mic) p (fitting (messageOf l p)))
     by false q = rw (message-strange l p (kindsIn l p) refl (eqb-false _ _ q)) refl
+
+-- 4.4 in a frame: behind a good header, run and other fields, what the frequency is refused with is what the downlink is refused with where it is
+-- written, whole or its body alone, signed or validated
+module _ (l : Lent) (p : MeshPacket) (u : DownlinkPayload) (b n : ℕ) (kind : p .payload ≡ payload.Downlink u) (header : byteSays (headerByte (p .mhdr)) ≡ value b)
+    (inside : runRefusal (length (l .frame)) (u .«phy_payload») ≡ 0) (fields : downRefusal (u .metadata) ≡ 0) (frequency : stepsSays (exactSteps (u .metadata .frequency)) ≡ number n) where
+  no-body : payloadWire l (p .payload) ≡ refused n
+  unfolding payloadWire downlinkWire downlinkHead downWire
+  no-body =
+      let m = u .metadata in
+      let s = steps-refused (exactSteps (m .frequency)) n frequency in
+      let d : downWire m ≡ refused n = sym (not-refused (downRefusal m) _ fields) ∙ ap (λ (x : StepsRead). afterFreq m (stepsWire x)) s in
+      ap (payloadWire l) kind
+      ∙ sym (not-refused (runRefusal (length (l .frame)) (u .«phy_payload»)) _ inside)
+      ∙ ap (λ (f : Writing). followed (followed f (beBytes 4 (u .«relay_id»))) (runBytes (l .frame) (u .«phy_payload»))) d
+
+  no-kinds : kindsIn l p ≡ 0
+  unfolding payloadKinds
+  no-kinds = ap (payloadKinds (l .lists .kinds) (l .lists .spans)) kind
+
+  no-message : messageOf l p ≡ refused n
+  unfolding messageOf
+  no-message =
+      sym (not-refused (kindsIn l p) _ no-kinds)
+      ∙ ap (behind (headerByte (p .mhdr))) no-body
+      ∙ ap (λ (h : HeaderByte). behind h (refused n)) (byte-said (headerByte (p .mhdr)) b header)
+
+  pub downlink-frequency-refused : (E : List ℕ → List ℕ) (o : List ℕ)
+      → (writtenSays (answerOf (meshFrame l p) o) ≡ number n)
+      × (writtenSays (answerOf (limitedOf (payloadWire l (p .payload))) o) ≡ number n)
+      × (meshSays (setMic E l p) ≡ number n)
+      × (p .«has_mic» ≡ true → validSays (validateMic E l p) ≡ number n)
+  unfolding meshFrame withMic answerOf setMic signedOf fitting validateMic
+  downlink-frequency-refused E o = (
+    rw no-message refl,
+    rw no-body refl,
+    rw no-message refl,
+    λ e. simp (eq-eqb (kindsIn l p) 0 no-kinds, e) (rw no-message refl),
+  )
 
 -- what is signed is valid under the same key, and with any other MIC it is not
 module _ (E : List ℕ → List ℕ) (l : Lent) (p : MeshPacket) where

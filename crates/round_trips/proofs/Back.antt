@@ -1,6 +1,6 @@
--- What is written and accepted reads back as the same packet: the payload by its bytes and not by its place, and a downlink's frequency as
--- its three bytes mean it. Said for a header whose type is the payload's kind, and for LoRa frames of at least one byte whose first does not
--- begin with 111. The bounds are those of the fields' types. Assumes nothing.
+-- What is written and accepted reads back as the same packet, the payload by its bytes and not by its place. Said for a header whose type is
+-- the payload's kind, and for LoRa frames of at least one byte whose first does not begin with 111. The bounds are those of the fields' types.
+-- Assumes nothing.
 use Prim.Native.Nat.{ℕ, _+_, _-_, _/_, _≤_, _<_}
 use native.Mathlib.Nat.{min-le-left}
 use native.Mathlib.Omega.{arith}
@@ -20,7 +20,7 @@ use Rattle.fields.specs.declared.header.PayloadType.{PayloadType}
 use Rattle.fields.specs.declared.header.PayloadType.the-variants.{Uplink, Downlink, Event, Command}
 use Rattle.fields.proofs.Laws.Header.{header-back}
 use Rattle.wire.specs.Run.{runRefusal, runBytes, runAt}
-use Rattle.links.specs.Read.{uplinkAt, downlinkAt, heard}
+use Rattle.links.specs.Read.{uplinkAt, downlinkAt}
 use Rattle.contents.specs.Content.{Lent, contentOf, contentBytes}
 use Rattle.events.specs.Read.{eventAt, commandAt}
 use Rattle.links.specs.Write.{uplinkHead, uplinkWire, downlinkHead, downlinkWire}
@@ -92,8 +92,7 @@ module _ (s : Lent) (w : List ℕ) (p : MeshPacket) (written : meshFrame s p ≡
       )
 
   pub downlink-back : (u : DownlinkPayload) → p .payload ≡ ADownlink u → p .mhdr .«payload_type» ≡ Downlink → u .«relay_id» < 4294967296
-      → (h : List ℕ) × (downlinkHead u ≡ bytes h)
-      × (meshOf w ≡ Mesh (carrying p (ADownlink (record { metadata = heard (u .metadata) h; «relay_id» = u .«relay_id»; «phy_payload» = runAt 11 (length (runBytes (s .frame) (u .«phy_payload»))) }))))
+      → (meshOf w ≡ Mesh (carrying p (ADownlink (record { metadata = u .metadata; «relay_id» = u .«relay_id»; «phy_payload» = runAt 11 (length (runBytes (s .frame) (u .«phy_payload»))) }))))
       × (runBytes w (runAt 11 (length (runBytes (s .frame) (u .«phy_payload»)))) ≡ runBytes (s .frame) (u .«phy_payload»))
   unfolding payloadWire downlinkWire payloadAt
   downlink-back u eu et hr =
@@ -102,8 +101,6 @@ module _ (s : Lent) (w : List ℕ) (p : MeshPacket) (written : meshFrame s p ≡
       let h = g .1 in
       let l = downlink-length u h (g .2) in
       let f = fits h v (g .3) in (
-        h,
-        g .2,
         read Downlink et _ (ap (λ (x : List ℕ). ofDownlink (downlinkAt 1 x)) (g .3) ∙ ap ofDownlink (downlink-read-back u h v 1 (g .2) hr (omega arith))),
         run-in h v 11 (g .3) (omega arith),
       )

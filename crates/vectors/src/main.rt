@@ -368,12 +368,15 @@ fn metadata(label: &[u8], bytes: [u8; 5], expected: UplinkMetadata) {
     uplink_written(m);
 }
 
-fn read_back(bytes: &[u8]) {
+fn frequency_read(label: &[u8], bytes: &[u8]) {
+    say(label);
     match decode_freq(bytes) {
-        FreqRead::Hertz(n) => plain(b", read as ", n as u64),
-        FreqRead::Refused(n) => number(b", ", n),
+        FreqRead::Hertz(n) => {
+            plain(b"read as ", n as u64);
+            say(b"\n");
+        }
+        FreqRead::Refused(n) => number(b"", n),
     }
-    say(b"\n");
 }
 
 fn frequency(label: &[u8], freq: u32) {
@@ -383,7 +386,7 @@ fn frequency(label: &[u8], freq: u32) {
     match answer {
         Checked::Accepted => {
             hex(label, &bytes);
-            read_back(&bytes);
+            frequency_read(b", ", &bytes);
         }
         Checked::Refused(n) => number(label, n),
     }
@@ -456,9 +459,15 @@ fn p3() {
 fn frequencies() {
     frequency(b"P4 868100000             ", 868100000);
     frequency(b"P5 2400000001            ", 2400000001);
+    frequency_read(b"P5 b71b00                ", &[0xb7, 0x1b, 0x00]);
     frequency(b"P6 1200000000            ", 1200000000);
     frequency(b"P7 1677721500            ", 1677721500);
+    frequency_read(b"P7 ffffff                ", &[0xff, 0xff, 0xff]);
     frequency(b"P8 1677721650            ", 1677721650);
+    frequency(b"0, first of 100 Hz       ", 0);
+    frequency(b"1199999900, the last     ", 1199999900);
+    frequency(b"2400000000, of 200 Hz    ", 2400000000);
+    frequency(b"3355443000, the last     ", 3355443000);
 }
 
 fn headers() {

@@ -4,23 +4,21 @@ use native.Mathlib.Omega.{arith}
 use mathlib.Core.Bool.{Bool, true, false}
 use mathlib.Core.Path.{_≡_, refl}
 use mathlib.Core.List.{List, [], _∷_}
-use lib.Dec.{leb, ltb, eqb, lit<}
+use lib.Dec.{leb, ltb, lit<}
 use lib.IntN.{ℤ, pos, negsuc, negℤ}
 use lib.Signed.{ltZ}
 use lib.ListN.{getD, replicate}
-use borrow.Author.Tests.{le-ltb, ltb-true, ltb-false, eqb-true, leb-false}
+use borrow.Author.Tests.{le-ltb, ltb-true, ltb-false}
 use Rattle.base.specs.Pick.{pick}
 use Rattle.base.specs.Lists.{Bytes}
-use Rattle.base.specs.Numbers.{frequencyLarge, frequencyStep}
 use Rattle.wire.specs.Number.{beOf, beMore}
 use Rattle.wire.proofs.Laws.Number.{be-lt}
-use Rattle.fields.specs.Limits.{hopsLeast, hopsMost, uplinkIdLeast, uplinkIdMost, drLeast, drMost, rssiLeast, rssiMost, snrLeast, snrMost, channelLeast, channelMost, relayIdLeast, relayIdMost, hertzLeast, hertzMost, hertzWritten, stepsMost, txPowerLeast, txPowerMost, delayLeast, delayMost, timestampLeast, timestampMost, micLeast, micMost}
+use Rattle.fields.specs.Limits.{hopsLeast, hopsMost, uplinkIdLeast, uplinkIdMost, drLeast, drMost, rssiLeast, rssiMost, snrLeast, snrMost, channelLeast, channelMost, relayIdLeast, relayIdMost, hertzLeast, hertzMost, stepsMost, txPowerLeast, txPowerMost, delayLeast, delayMost, timestampLeast, timestampMost, micLeast, micMost}
 use Rattle.fields.specs.Header.{typeLeast, typeMost, codeAt, hopsAt}
 use Rattle.fields.specs.Signal.{rssiOf, snrOf}
-use Rattle.fields.specs.Freq.{halvedOf, stepsAt, stepsOf, scaled, hertzOf}
+use Rattle.fields.specs.Freq.{scaled, hertzOf}
 use Rattle.fields.specs.Meta.{upOf, downOf}
 use Rattle.fields.specs.Path.{pathOf}
-use Rattle.fields.specs.declared.freq.StepsRead.the-variants.{Steps, Refused}
 use Rattle.fields.proofs.Laws.Bytes.{none, _▸_, small}
 
 pub data Field : Type 0 where
@@ -173,26 +171,3 @@ both-read TxPower = ((0, lit< tt, refl), (255, lit< tt, refl))
 both-read Delay = ((0, lit< tt, refl), (255, lit< tt, refl))
 both-read Timestamp = ((0, lit< tt, refl), (255, lit< tt, refl))
 both-read Mic = ((0, lit< tt, refl), (255, lit< tt, refl))
-
--- ---- a frequency that is written may be 1 Hz over what is read, since the remainder of halving is dropped
-
-at-most : (g n : ℕ) → stepsAt g ≡ Steps n → g ≤ 1677721500
-at-most g n e = by (ltb 16777215 (g / 100)) (eqb (g % 100) 0) refl refl e
-  where
-    by : (t u : Bool) → ltb 16777215 (g / 100) ≡ t → eqb (g % 100) 0 ≡ u
-        → pick t (Refused frequencyLarge) (pick u (Steps (g / 100)) (Refused frequencyStep)) ≡ Steps n → g ≤ 1677721500
-    by true u p q z = let w : _≡_ {A = ℕ} 0 1 = cc in absurd (omega arith)
-    by false true p q z = let l = ltb-false 16777215 (g / 100) p in let m = eqb-true (g % 100) 0 q in omega arith
-    by false false p q z = let w : _≡_ {A = ℕ} 0 1 = cc in absurd (omega arith)
-
-pub written-within : (f n : ℕ) → stepsOf f ≡ Steps n → f ≤ hertzWritten
-unfolding stepsOf halvedOf
-written-within f n e = by (leb 2400000000 f) refl e
-  where
-    by : (t : Bool) → leb 2400000000 f ≡ t → stepsAt (pick t (f / 2) f) ≡ Steps n → f ≤ 3355443001
-    by true p z = let l = at-most (f / 2) n z in omega arith
-    by false p z = let l = leb-false 2400000000 f p in omega arith
-
-pub both-written : (stepsOf hertzLeast ≡ Steps 0) × (stepsOf hertzWritten ≡ Steps stepsMost)
-unfolding stepsOf halvedOf
-both-written = (refl, refl)

@@ -2,7 +2,7 @@
 use Prim.Native.Nat.{ℕ, _+_, _-_, _*_, _/_, _%_, _<_, _≤_}
 use native.Mathlib.Omega.{arith}
 use mathlib.Core.Bool.{Bool, true, false}
-use mathlib.Core.Path.{_≡_, refl, ap, _∙_}
+use mathlib.Core.Path.{_≡_, refl, sym, ap, _∙_}
 use mathlib.Core.List.{List, [], _∷_, _++_}
 use lib.Dec.{ltb, eqb}
 use lib.ListN.{length, getD}
@@ -13,7 +13,7 @@ use Rattle.base.specs.Answers.{Writing, bytes, refused}
 use Rattle.base.proofs.First.{passed}
 use Rattle.base.proofs.Answers.{unless-bytes}
 use Rattle.wire.specs.Number.{beBytes}
-use Rattle.fields.specs.Freq.{hertzOf}
+use Rattle.fields.specs.Freq.{hertzIn}
 use Rattle.fields.specs.Meta.{idBytes, idRefusal, afterRssi, upOf, upWire, downRefusal, afterFreq, downOf, downWire}
 use Rattle.fields.specs.declared.meta.UplinkMetadata.{UplinkMetadata}
 use Rattle.fields.specs.declared.meta.DownlinkMetadata.{DownlinkMetadata}
@@ -116,17 +116,8 @@ with-steps : (m : DownlinkMetadata) (f : Writing) (w : List ℕ) → afterFreq m
 with-steps m (bytes s) w e = (s, refl, cc)
 with-steps m (refused n) w e = let z : _≡_ {A = ℕ} 0 1 = cc in absurd (omega arith)
 
--- what is written is read back, but for the frequency: that is what its three bytes mean, and 1.2 to 1.68 GHz are read as twice that
-pub down-back : (m : DownlinkMetadata) (w : List ℕ) → downWire m ≡ bytes w
-    → (length w ≡ 6) × (Bytes w)
-    × (downOf w
-    ≡ record {
-      «uplink_id» = m .«uplink_id»;
-      dr = m .dr;
-      frequency = hertzOf (getD w 2 0) (getD w 3 0) (getD w 4 0);
-      «tx_power» = m .«tx_power»;
-      delay = m .delay;
-    })
+-- what is written is read back
+pub down-back : (m : DownlinkMetadata) (w : List ℕ) → downWire m ≡ bytes w → (length w ≡ 6) × (Bytes w) × (downOf w ≡ m)
 unfolding downWire beBytes
 down-back m w e =
     let u = unless-bytes _ _ w e in
@@ -137,8 +128,9 @@ down-back m w e =
     let d : (m .«uplink_id» % 16 * 16 + m .dr) % 16 ≡ m .dr = omega arith in
     let p : (m .«tx_power» * 16 + (m .delay - 1)) / 16 ≡ m .«tx_power» = omega arith in
     let y : (m .«tx_power» * 16 + (m .delay - 1)) % 16 + 1 ≡ m .delay = omega arith in
+    let q = ap hertzIn (sym (n .1)) ∙ n .2 in
     let v = g .2 ∙ ap (λ (s : List ℕ). idBytes (m .«uplink_id») (m .dr) ++ s ++ (m .«tx_power» * 16 + (m .delay - 1)) ∷ []) (n .1) in
-    rw v (refl, small ((omega arith) ▸ (omega arith) ▸ (omega arith) ▸ (omega arith) ▸ (omega arith) ▸ (omega arith) ▸ none), rw (i, d, p, y))
+    rw v (refl, small ((omega arith) ▸ (omega arith) ▸ (omega arith) ▸ (omega arith) ▸ (omega arith) ▸ (omega arith) ▸ none), rw (i, d, q, p, y))
 
 -- and what is read is written as the same bytes
 pub down-again : (b : List ℕ) → length b ≡ 6 → Bytes b
