@@ -8,7 +8,7 @@ use lib.Dec.{ltb, leb, eqb}
 use mathlib.Core.List.{List, [], _∷_}
 use lib.IntN.{ℤ, pos, negℤ}
 use lib.ListN.{length, getD, take, drop, replicate}
-use borrow.Author.Tests.{lt-ltb, le-ltb, le-leb, lt-leb, leb-true, leb-false, eq-eqb, ne-eqb, eqb-true}
+use borrow.Author.Tests.{lt-ltb, le-ltb, ltb-true, ltb-false, le-leb, lt-leb, leb-true, leb-false, eq-eqb, ne-eqb, eqb-true, eqb-false}
 use Rattle.base.specs.Pick.{pick}
 use Rattle.base.specs.Lists.{Bytes}
 use Rattle.base.proofs.Lists.{listed}
@@ -133,24 +133,61 @@ module _ (f : ℕ) (fits : halvedOf f / 100 ≤ 16777215) (whole : halvedOf f % 
   frequency-written h =
       simp (le-ltb 16777215 (halvedOf f / 100) fits, eq-eqb (halvedOf f % 100) 0 whole, eq-eqb (hertzIn (beBytes 3 (halvedOf f / 100))) f h)
 
--- which are those: whole steps from 1.2 GHz up to the most, which would be read as their double, ..
+-- n steps that are read as another: of 200 Hz, since those of 100 Hz are read as they were
+wide : (f n : ℕ) → halvedOf f ≡ n * 100 → 12000000 ≤ n → n ≤ 16777215 → (n * 200 ≡ f → ⊥) → stepsSays (exactSteps f) ≡ number frequencyOther
+wide f n g l m h =
+    let d : halvedOf f / 100 ≡ n = ap (λ (x : ℕ). x / 100) g ∙ omega arith in
+    let w : n * 100 % 100 ≡ 0 = omega arith in
+    let r : hertzIn (beBytes 3 n) ≡ n * 200 = bytes-scaled n (omega arith) ∙ simp (le-leb 12000000 n l) in
+    frequency-other f (rw d m) (rw g w) (λ e. h (sym r ∙ ap (λ (x : ℕ). hertzIn (beBytes 3 x)) (sym d) ∙ e))
+
+-- which are whole steps from 1.2 GHz up to the most, which would be read as their double, ..
 pub frequency-doubled : (f : ℕ) → 1200000000 ≤ f → f ≤ 1677721500 → f % 100 ≡ 0 → stepsSays (exactSteps f) ≡ number frequencyOther
 unfolding halvedOf
 frequency-doubled f l m w =
-    let g : halvedOf f ≡ f = simp (lt-leb 2400000000 f (omega arith)) in
-    let d : halvedOf f / 100 ≡ f / 100 = ap (λ (x : ℕ). x / 100) g in
-    frequency-other f (rw d (omega arith)) (rw g w)
-    (λ e. let r : f / 100 * 200 ≡ f = sym (bytes-scaled (f / 100) (omega arith) ∙ simp (le-leb 12000000 (f / 100) (omega arith))) ∙ ap (λ (x : ℕ). hertzIn (beBytes 3 x)) (sym d) ∙ e in omega arith)
+    let g : halvedOf f ≡ f / 100 * 100 = simp (lt-leb 2400000000 f (omega arith)) (omega arith) in
+    wide f (f / 100) g (omega arith) (omega arith) (λ e. omega arith)
 
--- .. and from 2.4 GHz on those whose half is cut
+-- .. and from 2.4 GHz on those whose half is cut, ..
 pub frequency-cut : (f : ℕ) → 2400000000 ≤ f → f ≤ 3355443001 → f % 200 ≡ 1 → stepsSays (exactSteps f) ≡ number frequencyOther
 unfolding halvedOf
 frequency-cut f l m w =
-    let g : halvedOf f ≡ f / 2 = simp (le-leb 2400000000 f l) in
-    let d : halvedOf f / 100 ≡ f / 200 = ap (λ (x : ℕ). x / 100) g ∙ omega arith in
-    let z : f / 2 % 100 ≡ 0 = omega arith in
-    frequency-other f (rw d (omega arith)) (rw g z)
-    (λ e. let r : f / 200 * 200 ≡ f = sym (bytes-scaled (f / 200) (omega arith) ∙ simp (le-leb 12000000 (f / 200) (omega arith))) ∙ ap (λ (x : ℕ). hertzIn (beBytes 3 x)) (sym d) ∙ e in omega arith)
+    let g : halvedOf f ≡ f / 200 * 100 = simp (le-leb 2400000000 f l) (omega arith) in
+    wide f (f / 200) g (omega arith) (omega arith) (λ e. omega arith)
+
+-- .. and no others
+abbrev pub Misread : ℕ → Type 0
+Misread f = ((1200000000 ≤ f) × (f ≤ 1677721500) × (f % 100 ≡ 0)) ⊎ ((2400000000 ≤ f) × (f ≤ 3355443001) × (f % 200 ≡ 1))
+
+pub frequency-other-only : (f : ℕ) → stepsSays (exactSteps f) ≡ number frequencyOther → Misread f
+unfolding halvedOf
+frequency-other-only f e = by (ltb 16777215 (halvedOf f / 100)) (eqb (halvedOf f % 100) 0) (eqb (hertzIn (beBytes 3 (halvedOf f / 100))) f) refl refl refl
+  where
+    low : (n : ℕ) → f ≡ n * 100 → n ≤ 16777215 → (t : Bool) → leb 12000000 n ≡ t → (pick t (n * 200) (n * 100) ≡ f → ⊥) → Misread f
+    low n g m true p h = let l = leb-true 12000000 n p in inl (omega arith, omega arith, omega arith)
+    low n g m false p h = absurd (h (sym g))
+
+    of : (t : Bool) → leb 2400000000 f ≡ t → (n : ℕ) → pick t (f / 2) f ≡ n * 100 → n ≤ 16777215 → (scaled n ≡ f → ⊥) → Misread f
+    of true p n g m h =
+        let l = leb-true 2400000000 f p in
+        let r : n * 200 ≡ f → ⊥ = λ z. h (simp (le-leb 12000000 n (omega arith)) z) in
+        let k : f ≡ n * 200 + 1 = omega arith in
+        inr (l, omega arith, omega arith)
+    of false p n g m h = low n g m (leb 12000000 n) refl h
+
+    by : (t u v : Bool) → ltb 16777215 (halvedOf f / 100) ≡ t → eqb (halvedOf f % 100) 0 ≡ u → eqb (hertzIn (beBytes 3 (halvedOf f / 100))) f ≡ v → Misread f
+    by true u v p q r =
+        let a = sym (frequency-too-large f (ltb-true 16777215 (halvedOf f / 100) p)) ∙ e in let z : _≡_ {A = ℕ} 0 1 = cc in absurd (omega arith)
+    by false false v p q r =
+        let a = sym (frequency-no-step f (ltb-false 16777215 (halvedOf f / 100) p) (eqb-false (halvedOf f % 100) 0 q)) ∙ e in
+        let z : _≡_ {A = ℕ} 0 1 = cc in absurd (omega arith)
+    by false true true p q r =
+        let a = sym (frequency-written f (ltb-false 16777215 (halvedOf f / 100) p) (eqb-true (halvedOf f % 100) 0 q) (eqb-true _ _ r)) ∙ e in
+        let z : _≡_ {A = ℕ} 0 1 = cc in absurd (omega arith)
+    by false true false p q r =
+        let l = ltb-false 16777215 (halvedOf f / 100) p in
+        let w = eqb-true (halvedOf f % 100) 0 q in
+        of (leb 2400000000 f) refl (halvedOf f / 100) (omega arith) l (λ z. eqb-false _ _ r (bytes-scaled (halvedOf f / 100) (omega arith) ∙ z))
 
 -- what is written is read as it was; three bytes, read and written, are the same bytes
 pub frequency-written-then-read : (f : ℕ) (w : List ℕ) → freqWire f ≡ bytes w → freqSays (freqRead w) ≡ value f
@@ -168,13 +205,13 @@ frequency-read-then-written s f h e = by (eqb (length s) 3) refl e
     by false p q = let z : _≡_ {A = ℕ} 0 1 = cc in absurd (omega arith)
 
 -- so reading is one to one, and onto what is written: a frequency is written exactly if some bytes are read as it
-pub frequency-read-of-one : (s t : List ℕ) (f : ℕ) → Bytes s → Bytes t → freqSays (freqRead s) ≡ value f → freqSays (freqRead t) ≡ value f → s ≡ t
-frequency-read-of-one s t f h k d e = let z : bytes s ≡ bytes t = sym (frequency-read-then-written s f h d) ∙ frequency-read-then-written t f k e in cc
+pub frequency-read-one-to-one : (s t : List ℕ) (f : ℕ) → Bytes s → Bytes t → freqSays (freqRead s) ≡ value f → freqSays (freqRead t) ≡ value f → s ≡ t
+frequency-read-one-to-one s t f h k d e = let z : bytes s ≡ bytes t = sym (frequency-read-then-written s f h d) ∙ frequency-read-then-written t f k e in cc
 
-pub frequency-written-if-read : (f : ℕ)
+pub frequency-written-exactly-if-read : (f : ℕ)
     → ((w : List ℕ) × (freqWire f ≡ bytes w) → (s : List ℕ) × (Bytes s) × (freqSays (freqRead s) ≡ value f))
     × ((s : List ℕ) × (Bytes s) × (freqSays (freqRead s) ≡ value f) → (w : List ℕ) × (freqWire f ≡ bytes w))
-frequency-written-if-read f =
+frequency-written-exactly-if-read f =
     (λ a. (a .0, freq-bytes f (a .0) (a .1), frequency-written-then-read f (a .0) (a .1)), λ a. (a .0, frequency-read-then-written (a .0) f (a .1) (a .2)))
 
 -- 6.2: these are whole 100 Hz under 1.2 GHz, and whole 200 Hz from 2.4 GHz to the most
