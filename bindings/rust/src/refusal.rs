@@ -42,7 +42,7 @@ pub enum Refusal {
     DelayLarge = 16,
     /// The frequency is too large.
     FrequencyLarge = 17,
-    /// The frequency is not a multiple of 100 Hz.
+    /// The frequency is not a multiple of 100 Hz, or of 200 Hz from 2.4 GHz up.
     FrequencyStep = 18,
     /// An item's value has over 255 bytes, or a path over 42 entries.
     ItemLong = 19,
@@ -132,7 +132,7 @@ impl Refusal {
             Refusal::TxPowerLarge => "the transmit power is over 15",
             Refusal::DelayLarge => "the delay is over 16",
             Refusal::FrequencyLarge => "the frequency is too large",
-            Refusal::FrequencyStep => "the frequency is not a multiple of 100 Hz",
+            Refusal::FrequencyStep => "the frequency is not a multiple of 100 Hz, or of 200 Hz from 2.4 GHz up",
             Refusal::ItemLong => "an item's value has over 255 bytes, or a path over 42 entries",
             Refusal::HeartbeatLength => "the length of a heartbeat is not a multiple of 6",
             Refusal::OutputShort => "the output has too little room for the answer",

@@ -84,7 +84,7 @@ abbrev pub afterFreq : DownlinkMetadata → Writing → Writing
 afterFreq m (refused n) = refused n
 afterFreq m (bytes f) = bytes (idBytes (m .«uplink_id») (m .dr) ++ f ++ (m .«tx_power» * 16 + (m .delay - 1)) ∷ [])
 
--- then 17 and 18 on the frequency
+-- then those of the frequency: 17, 18, 38
 unfoldable pub downWire : DownlinkMetadata → Writing
 downWire m = unlessRefused (downRefusal m) (afterFreq m (freqWire (m .frequency)))
 

@@ -83,7 +83,7 @@ impl DownlinkPayload {
         }
     }
 
-    // The body: 45, 8, 9, 14 to 18, 5, 21.
+    // The body: 45, 8, 9, 14 to 18, 38, 5, 21.
     pub fn write(self, src: &[u8], out: &mut [u8]) -> Written
         ensures answer { λ r. ⌜ r ≡ answerOf (limitedOf (downlinkWire (now (src .entry)) self)) (now (out .entry)) ⌝ }
         ensures bytes { λ _. ⌜ now (out .exit) ≡ outOf (limitedOf (downlinkWire (now (src .entry)) self)) (now (out .entry)) ⌝ }
@@ -104,7 +104,7 @@ impl DownlinkPayload {
         }
     }
 
-    // The frame around it, behind its header byte: 45, 8, 9, 14 to 18, 27, 5, 21.
+    // The frame around it, behind its header byte: 45, 8, 9, 14 to 18, 38, 27, 5, 21.
     pub fn write_in(self, first: u8, has_mic: bool, mic: u32, src: &[u8], out: &mut [u8]) -> Written
         ensures answer { λ r. ⌜ r ≡ answerOf (withMic «has_mic» mic (prefixed first (downlinkWire (now (src .entry)) self))) (now (out .entry)) ⌝ }
         ensures bytes { λ _. ⌜ now (out .exit) ≡ outOf (withMic «has_mic» mic (prefixed first (downlinkWire (now (src .entry)) self))) (now (out .entry)) ⌝ }

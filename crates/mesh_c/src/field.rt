@@ -163,7 +163,7 @@ pub extern "C" fn mesh_downlink_metadata_read(b: &[u8; 6], numbers: &mut [u64; 5
     ];
 }
 
-// 0, or 8, 9, 14 to 18 in their order.
+// 0, or 8, 9, 14 to 18, 38 in their order.
 #[no_mangle]
 pub extern "C" fn mesh_downlink_metadata_write(
     uplink_id: u16,
@@ -210,7 +210,7 @@ pub extern "C" fn mesh_frequency_read(b: &[u8], hertz: &mut u32) -> u8
     }
 }
 
-// 0, or 17, 18.
+// 0, or 17, 18, 38.
 #[no_mangle]
 pub extern "C" fn mesh_frequency_write(hertz: u32, b: &mut [u8; 3]) -> u8
     ensures answer { λ r. ⌜ r ≡ numberIn (checkedSays (freqBytes hertz .answer) (freqBytes hertz .bytes)) ⌝ }

@@ -140,7 +140,7 @@ validating-refuses-as-signing E l p e = by (eqb (kindsIn l p) 0) refl
     by false q = rw (message-strange l p (kindsIn l p) refl (eqb-false _ _ q)) refl
 
 -- 4.4 in a frame: behind a good header, run and other fields, what the frequency is refused with is what the downlink is refused with where it is
--- written, whole or its body alone, signed or validated
+-- written, whole or its body alone, signed, or, with a MIC, validated
 module _ (l : Lent) (p : MeshPacket) (u : DownlinkPayload) (b n : ℕ) (kind : p .payload ≡ payload.Downlink u) (header : byteSays (headerByte (p .mhdr)) ≡ value b)
     (inside : runRefusal (length (l .frame)) (u .«phy_payload») ≡ 0) (fields : downRefusal (u .metadata) ≡ 0) (frequency : stepsSays (exactSteps (u .metadata .frequency)) ≡ number n) where
   no-body : payloadWire l (p .payload) ≡ refused n
