@@ -139,10 +139,10 @@ validating-refuses-as-signing E l p e = by (eqb (kindsIn l p) 0) refl
     by true q = simp e (validating-by E (p .mic) p (fitting (messageOf l p)))
     by false q = rw (message-strange l p (kindsIn l p) refl (eqb-false _ _ q)) refl
 
--- 4.4 in a frame: behind a good header, run and other fields, what the frequency is refused with is what the downlink is refused with where it is
--- written, whole or its body alone, signed, or, with a MIC, validated
-module _ (l : Lent) (p : MeshPacket) (u : DownlinkPayload) (b n : ℕ) (kind : p .payload ≡ payload.Downlink u) (header : byteSays (headerByte (p .mhdr)) ≡ value b)
-    (inside : runRefusal (length (l .frame)) (u .«phy_payload») ≡ 0) (fields : downRefusal (u .metadata) ≡ 0) (frequency : stepsSays (exactSteps (u .metadata .frequency)) ≡ number n) where
+-- 4.4 in a frame: behind a good run and other fields, what the frequency is refused with is what the downlink is refused with where its body is
+-- written alone, and behind a good header where it is written whole, signed, or, with a MIC, validated
+module _ (l : Lent) (p : MeshPacket) (u : DownlinkPayload) (n : ℕ) (kind : p .payload ≡ payload.Downlink u) (inside : runRefusal (length (l .frame)) (u .«phy_payload») ≡ 0)
+    (fields : downRefusal (u .metadata) ≡ 0) (frequency : stepsSays (exactSteps (u .metadata .frequency)) ≡ number n) where
   no-body : payloadWire l (p .payload) ≡ refused n
   unfolding payloadWire downlinkWire downlinkHead downWire
   no-body =
@@ -157,25 +157,27 @@ module _ (l : Lent) (p : MeshPacket) (u : DownlinkPayload) (b n : ℕ) (kind : p
   unfolding payloadKinds
   no-kinds = ap (payloadKinds (l .lists .kinds) (l .lists .spans)) kind
 
-  no-message : messageOf l p ≡ refused n
+  no-message : (b : ℕ) → byteSays (headerByte (p .mhdr)) ≡ value b → messageOf l p ≡ refused n
   unfolding messageOf
-  no-message =
+  no-message b header =
       sym (not-refused (kindsIn l p) _ no-kinds)
       ∙ ap (behind (headerByte (p .mhdr))) no-body
       ∙ ap (λ (h : HeaderByte). behind h (refused n)) (byte-said (headerByte (p .mhdr)) b header)
 
-  pub downlink-frequency-refused : (E : List ℕ → List ℕ) (o : List ℕ)
-      → (writtenSays (answerOf (meshFrame l p) o) ≡ number n)
-      × (writtenSays (answerOf (limitedOf (payloadWire l (p .payload))) o) ≡ number n)
-      × (meshSays (setMic E l p) ≡ number n)
+  pub downlink-body-refused : (o : List ℕ) → writtenSays (answerOf (limitedOf (payloadWire l (p .payload))) o) ≡ number n
+  unfolding answerOf
+  downlink-body-refused o = rw no-body refl
+
+  pub downlink-frequency-refused : (b : ℕ) → byteSays (headerByte (p .mhdr)) ≡ value b → (E : List ℕ → List ℕ) (o : List ℕ)
+      → (writtenSays (answerOf (meshFrame l p) o) ≡ number n) × (meshSays (setMic E l p) ≡ number n)
       × (p .«has_mic» ≡ true → validSays (validateMic E l p) ≡ number n)
   unfolding meshFrame withMic answerOf setMic signedOf fitting validateMic
-  downlink-frequency-refused E o = (
-    rw no-message refl,
-    rw no-body refl,
-    rw no-message refl,
-    λ e. simp (eq-eqb (kindsIn l p) 0 no-kinds, e) (rw no-message refl),
-  )
+  downlink-frequency-refused b header E o =
+      let m = no-message b header in (
+        rw m refl,
+        rw m refl,
+        λ e. simp (eq-eqb (kindsIn l p) 0 no-kinds, e) (rw m refl),
+      )
 
 -- what is signed is valid under the same key, and with any other MIC it is not
 module _ (E : List ℕ → List ℕ) (l : Lent) (p : MeshPacket) where
