@@ -5,8 +5,8 @@ use mathlib.Core.Path.{_≡_, ap, _∙_}
 use borrow.Author.Needs.{needs}
 use borrow.Author.Tests.{lt-ltb, le-ltb, eq-eqb, ne-eqb}
 use Rattle.wire.specs.Number.{beBytes}
-use Rattle.fields.specs.Freq.{hertzIn, stepsAt, stepsOf, exactSteps}
-use Rattle.fields.specs.declared.freq.StepsRead.the-variants.{Steps}
+use Rattle.fields.specs.Freq.{hertzIn, stepsOf, exactSteps}
+use Rattle.fields.proofs.Laws.Freq.{at-hundreds}
 use Rattle.fields.proofs.freq.steps.Statement.{statement}
 use Rattle.fields.proofs.freq.steps.Tie as tie
 
@@ -28,8 +28,8 @@ returns-3 c =
     let f = c .before .before .before .before .before .halved .result in
     let freq = c .before .before .before .before .before .before .args .freq in
     let h : c .before .hertz .result ≡ hertzIn (beBytes 3 (f / 100)) = c .before .hertz .ensures ∙ ap hertzIn (c .before .before .be24-bytes .ensures) in
-    let s : Steps (f / 100) ≡ stepsAt f = simp (le-ltb 16777215 (f / 100) (omega arith), eq-eqb (f % 100) 0 (omega arith)) in
-    rw (← c .before .before .before .before .before .halved .ensures) (rw (← s) (rw (← h) (simp (ne-eqb (c .before .hertz .result) freq (λ e. omega arith)))))
+    let s = at-hundreds (f / 100) f (omega arith) (omega arith) in
+    rw (← c .before .before .before .before .before .halved .ensures) (rw s (rw (← h) (simp (ne-eqb (c .before .hertz .result) freq (λ e. omega arith)))))
 
 returns-4 : tie.Need-returns-4
 unfolding exactSteps stepsOf
@@ -37,8 +37,8 @@ returns-4 c =
     let f = c .before .before .before .before .before .halved .result in
     let freq = c .before .before .before .before .before .before .args .freq in
     let h : c .before .hertz .result ≡ hertzIn (beBytes 3 (f / 100)) = c .before .hertz .ensures ∙ ap hertzIn (c .before .before .be24-bytes .ensures) in
-    let s : Steps (f / 100) ≡ stepsAt f = simp (le-ltb 16777215 (f / 100) (omega arith), eq-eqb (f % 100) 0 (omega arith)) in
-    rw (← c .before .before .before .before .before .halved .ensures) (rw (← s) (rw (← h) (simp (eq-eqb (c .before .hertz .result) freq (omega arith)))))
+    let s = at-hundreds (f / 100) f (omega arith) (omega arith) in
+    rw (← c .before .before .before .before .before .halved .ensures) (rw s (rw (← h) (simp (eq-eqb (c .before .hertz .result) freq (omega arith)))))
 
 pub steps-spec : {M : Type 1} → statement M
 steps-spec = tie.close (tie.spec (λ c κs. search needs) returns returns-2 (λ c κs. search needs) (λ c. search needs) (λ c. search needs) (λ c. search needs) (λ c κs. search needs) returns-3 returns-4)
