@@ -9,7 +9,8 @@ enum { MOST = 8192 };
 
 /* All that the calls are given and leave. */
 static struct {
-    uint8_t key[16], block[16], tag[16], frame[MOST], downlink[MOST], event[MOST], message[MOST], work[MOST];
+    uint8_t key[16], block[16], tag[16], frame[MOST], downlink[MOST], event[MOST], message[MOST], work[MOST], out[MOST];
+    struct { uint8_t clear[MOST], sealed[MOST]; mesh_packet decoded; } beats[3];
     uint32_t words[MESH_CIPHER_WORDS];
     mesh_packet packet;
     mesh_counts counts;
@@ -21,6 +22,30 @@ static struct {
 static uint32_t ready[MESH_CIPHER_WORDS + 256];
 static uint64_t refusals;
 
+/* Events whose payload is heartbeats and one item behind them, by size. No ignored bit is set: every entry is asked. */
+static const uint8_t BEATS_KEY[16] = {1};
+static size_t beats_of(size_t n) { return n == 64 ? 0 : n == 255 ? 1 : 2; }
+
+static void make_beats(size_t n)
+{
+    uint8_t *clear = the.beats[beats_of(n)].clear, *sealed = the.beats[beats_of(n)].sealed, *item = clear + 9;
+    for (int i = 0; i < MOST; i++) clear[i] = (uint8_t)(i * 11 + 3);
+    clear[0] = 0xf0;
+    size_t left = n - 13;
+    while (left > 10) {
+        const size_t most = (left - 4) / 6, entries = most < 42 ? most : 42;
+        item[0] = 0, item[1] = (uint8_t)(6 * entries);
+        for (size_t i = 1; i <= entries; i++) item[1 + 6 * i] &= 63;
+        item += 2 + 6 * entries, left -= 2 + 6 * entries;
+    }
+    item[0] = 1, item[1] = (uint8_t)(left - 2);
+    memcpy(sealed, clear, MOST);
+    refusals += mesh_packet_read_mesh(&the.packet, clear, n);
+    refusals += mesh_stream(BEATS_KEY, false, the.packet.relay_id, the.packet.timestamp, clear + 9, n - 13, sealed + 9, n - 13);
+    refusals += mesh_packet_decode(&the.packet, clear, n, NULL, 0, &the.counts);
+    the.beats[beats_of(n)].decoded = the.packet;
+}
+
 static void begin(void)
 {
     memset(&the, 0, sizeof the);
@@ -30,6 +55,7 @@ static void begin(void)
     the.hertz = 2400000000;
     mesh_prepare(the.key, ready);
     refusals = 0;
+    make_beats(64), make_beats(255), make_beats(MOST);
 }
 
 static void block_ready(void) { mesh_encipher(ready, the.block); }
@@ -72,6 +98,31 @@ static void opened(size_t n)
     refusals += mesh_packet_read_mesh(&the.packet, the.event, n);
     refusals += mesh_packet_decrypt(&the.packet, the.key, the.event, n, the.work, MOST, &the.counts);
     the.key[1] = the.work[3];
+}
+
+/* the same of heartbeats; and these where they lie clear: decoded, and written once they are */
+static void opened_beats(size_t n)
+{
+    uint8_t *frame = the.beats[beats_of(n)].sealed;
+    refusals += mesh_packet_read_mesh(&the.packet, frame, n);
+    refusals += mesh_packet_decrypt(&the.packet, BEATS_KEY, frame, n, the.work, MOST, &the.counts);
+    frame[n - 1] = (uint8_t)(frame[n - 1] + the.counts.clean);
+}
+
+static void decoded(size_t n)
+{
+    uint8_t *frame = the.beats[beats_of(n)].clear;
+    refusals += mesh_packet_read_mesh(&the.packet, frame, n);
+    refusals += mesh_packet_decode(&the.packet, frame, n, NULL, 0, &the.counts);
+    frame[n - 1] = (uint8_t)(frame[n - 1] + the.counts.clean);
+}
+
+static void written(size_t n)
+{
+    uint8_t *frame = the.beats[beats_of(n)].clear;
+    mesh_lent lent = mesh_lent_frame(frame, n);
+    refusals += mesh_packet_write(&the.beats[beats_of(n)].decoded, &lent, the.out, MOST, &the.length);
+    frame[n - 5]++;
 }
 
 /* an uplink of n bytes, from its bytes on */
@@ -117,6 +168,8 @@ static void frequency(void)
 #define AT(what, n) static void what##_##n(void) { what(n); }
 AT(mic, 14) AT(mic, 64) AT(mic, 255) AT(mic, 8192) AT(mic_ready, 14) AT(mic_ready, 64) AT(mic_ready, 255) AT(mic_ready, 8192)
 AT(streamed, 64) AT(streamed, 255) AT(streamed, 8179) AT(opened, 64) AT(opened, 255) AT(opened, 8192)
+AT(opened_beats, 64) AT(opened_beats, 255) AT(opened_beats, 8192) AT(decoded, 64) AT(decoded, 255) AT(decoded, 8192)
+AT(written, 64) AT(written, 255) AT(written, 8192)
 AT(validated, 14) AT(validated, 64) AT(validated, 255) AT(validated, 8192) AT(edited, 14) AT(edited, 64) AT(edited, 255) AT(edited, 8192)
 
 static const struct call calls[] = {
@@ -137,6 +190,15 @@ static const struct call calls[] = {
     {"an event of 64 bytes opened (mesh_decrypt)", opened_64, 300, true},
     {"an event of 255 bytes opened", opened_255, 100, false},
     {"an event of 8,192 bytes opened", opened_8192, 4, false},
+    {"heartbeats, 64 bytes, opened", opened_beats_64, 300, true},
+    {"heartbeats, 255 bytes, opened", opened_beats_255, 100, false},
+    {"heartbeats, 8,192 bytes, opened", opened_beats_8192, 4, false},
+    {"heartbeats, 64 bytes, decoded (mesh_decode)", decoded_64, 3000, true},
+    {"heartbeats, 255 bytes, decoded", decoded_255, 3000, false},
+    {"heartbeats, 8,192 bytes, decoded", decoded_8192, 100, false},
+    {"heartbeats, 64 bytes, written", written_64, 1000, true},
+    {"heartbeats, 255 bytes, written", written_255, 300, false},
+    {"heartbeats, 8,192 bytes, written", written_8192, 10, false},
     {"an uplink of 14 bytes validated (mesh_validate)", validated_14, 600, true},
     {"an uplink of 64 bytes validated", validated_64, 300, false},
     {"an uplink of 255 bytes validated", validated_255, 100, false},

@@ -978,6 +978,19 @@ static void items(void) {
     static const uint8_t p11[] = {1, 2, 0xaa, 0xbb, 0, 5, 1, 2, 3, 4, 5, 2, 0, 3, 9, 0xcc};
     CHECK(do_count(true, p11, sizeof p11) == 0 && counted(2, 1, 6, 7, 3, 0));
     CHECK(do_count(false, p11, sizeof p11) == 0 && counted(3, 0, 13, 0, 3, 0));
+    /* Each byte of the longest path, as every byte: only the two bits that an snr ignores keep an event from being clean. */
+    uint8_t path[254] = {0, 252};
+    for (size_t i = 2; i < sizeof path; i++) {
+        for (unsigned b = 0; b < 256; b++) {
+            path[i] = (uint8_t)b;
+            CHECK(do_count(true, path, sizeof path) == 0 && counted(1, 0, 254, 0, 0, i % 6 != 1 || b < 64));
+        }
+        CHECK(do_count(false, path, sizeof path) == 0 && counted(1, 0, 254, 0, 0, 1));
+        path[i] = 0;
+    }
+    path[0] = 1;
+    memset(path + 2, 0xff, sizeof path - 2);
+    CHECK(do_count(true, path, sizeof path) == 0 && counted(1, 0, 254, 0, 0, 1));
 }
 
 static uint8_t do_item_write(bool is_event, uint8_t kind, uint8_t tag, const uint8_t *b, size_t n, size_t out_len) {
@@ -1063,7 +1076,7 @@ static uint8_t keep_all(bool is_event, const uint8_t *payload, size_t n) {
 static void walk(uint8_t kind, const uint8_t *from, size_t n) {
     const bool is_event = kind == MESH_EVENT;
     uint8_t *payload = copy(from, n);
-    uint64_t place = 0, items = 0, skipped = 0, kept_bytes = 0, skipped_bytes = 0, cut_bytes = 0;
+    uint64_t place = 0, items = 0, skipped = 0, kept_bytes = 0, skipped_bytes = 0, cut_bytes = 0, ignored = 0;
     mesh_items it = mesh_items_begin(is_event, payload, n);
     CHECK(it.found == MESH_END && it.refused == 0);
     while (mesh_items_next(&it)) {
@@ -1072,11 +1085,12 @@ static void walk(uint8_t kind, const uint8_t *from, size_t n) {
         CHECK(item_found[5] > place && item_found[5] <= n);
         items += it.found == MESH_KEPT;
         skipped += it.found == MESH_SKIPPED;
+        for (size_t i = 5; it.found == MESH_KEPT && it.kind == MESH_ITEM_HEARTBEAT && i < it.len; i += 6) ignored |= it.value[i] & 0xc0;
         *(it.found == MESH_KEPT ? &kept_bytes : it.found == MESH_SKIPPED ? &skipped_bytes : &cut_bytes) += item_found[5] - place;
         place = item_found[5];
     }
     CHECK(place == n && it.found == MESH_END && it.refused == 0 && !mesh_items_next(&it));
-    CHECK(do_count(is_event, payload, n) == 0 && counted(items, skipped, kept_bytes, skipped_bytes, cut_bytes, skipped + cut_bytes == 0));
+    CHECK(do_count(is_event, payload, n) == 0 && counted(items, skipped, kept_bytes, skipped_bytes, cut_bytes, skipped + cut_bytes + ignored == 0));
     walked(is_event, payload, n);
     CHECK(keep_all(is_event, payload, n) == 0 && kept_count == items);
     const mesh_lent l = {NULL, 0, payload, n, kept_kinds, kept_count, kept_spans, kept_count, NULL, 0, NULL, 0, NULL, 0};

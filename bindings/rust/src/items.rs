@@ -19,7 +19,8 @@ pub struct Opening {
     pub skipped_bytes: usize,
     /// The bytes of an item that the payload's end cuts.
     pub cut_bytes: usize,
-    /// Whether nothing was skipped or cut.
+    /// Whether nothing was skipped or cut and no path entry has one of the two bits set that are ignored in an snr byte. This is so exactly where
+    /// writing the kept items gives the payload back, byte for byte. A command has no path entries.
     pub clean: bool,
 }
 

@@ -269,6 +269,38 @@ fn given_back() {
     assert_eq!(beat.to_command(), Err(Refusal::TypeLarge));
 }
 
+/// Clean is told exactly where the opened packet is written as the payload stood.
+#[test]
+fn clean_as_written() {
+    // One path entry, or two, with none of the two bits that an snr ignores, or one of them; one of tag 1; one skipped; one byte cut.
+    for (payload, in_event, in_command) in [
+        ("", true, true),
+        ("0006 01020304 5007", true, true),
+        ("0006 01020304 5047", false, true),
+        ("0006 01020304 5087", false, true),
+        ("000c 01020304 5007 01020304 50c7", false, true),
+        ("0106 01020304 50c7", true, true),
+        ("0005 01020304 50", false, true),
+        ("0006 01020304 5007 00", false, false),
+    ] {
+        let payload = hex(payload);
+        for (packet, clean) in [(event(Content::Sealed(&payload)), in_event), (command(Content::Sealed(&payload)), in_command)] {
+            let mut read = packet.clone();
+            let opening = read.decode().unwrap().unwrap();
+            assert_eq!(opening.clean, clean);
+            assert_eq!(read.to_vec() == packet.to_vec(), clean);
+            // Sealed, and opened with the key.
+            let (mut sealed, mut work) = (vec![0; payload.len()], vec![0; payload.len()]);
+            let mut packet = packet;
+            packet.encrypt(&root(), &mut sealed).unwrap();
+            assert_eq!(packet.decrypt(&root(), &mut work), Ok(opening));
+            assert_eq!(packet.to_vec(), read.to_vec());
+        }
+        assert_eq!(Items::of_event(&payload).unwrap().opening().clean, in_event);
+        assert_eq!(Items::of_command(&payload).unwrap().opening().clean, in_command);
+    }
+}
+
 #[test]
 fn open_already() {
     let mut work = [BEFORE; 100];

@@ -28,7 +28,7 @@ use heartbeats::held;
 use heartbeats::path_count;
 use heartbeats::put_path;
 use items::ItemKind;
-use kept_items::is_beat;
+use items::is_beat;
 use kept_items::low_byte;
 use kept_items::put_item;
 pub use one::encode_command;

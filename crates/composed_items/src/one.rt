@@ -9,7 +9,7 @@ use base::Refusal;
 use base::Written;
 use items::Item;
 use items::ItemKind;
-use kept_items::is_beat;
+use items::is_beat;
 use kept_items::put_item;
 use wire::Run;
 use wire::emit;

@@ -1,5 +1,6 @@
 -- An entry of a heartbeat's path in six bytes: relay id, rssi, snr. Assumes nothing.
-use Prim.Native.Nat.{ℕ, _%_}
+use Prim.Native.Nat.{ℕ, suc, _%_}
+use mathlib.Core.Bool.{Bool, true, _&&_}
 use mathlib.Core.List.{List, [], _∷_}
 use lib.Dec.{eqb}
 use lib.ListN.{getD}
@@ -7,7 +8,7 @@ use Rattle.base.specs.Pick.{pick}
 use Rattle.base.specs.Numbers.{entryBytes}
 use Rattle.base.specs.Answers.{Writing, frameNumber, checkedOf, bytesOr}
 use Rattle.wire.specs.Number.{beOf, beBytes}
-use Rattle.fields.specs.Signal.{rssiOf, snrOf, rssiByte, snrByte}
+use Rattle.fields.specs.Signal.{rssiOf, snrOf, ignoredOf, rssiByte, snrByte}
 use Rattle.fields.specs.Meta.{afterRssi}
 use Rattle.fields.specs.declared.path.RelayPath.{RelayPath}
 use Rattle.fields.specs.declared.path.PathBytes.{PathBytes}
@@ -33,6 +34,17 @@ pathBytes p = pathAnswer (pathWire p)
 -- byte i of entries one behind the other, as it is written: the top two bits of each sixth byte, which hold no snr, are 0
 abbrev pub entryByte : ℕ → ℕ → ℕ
 entryByte i b = pick (eqb (i % entryBytes) 5) (b % 64) b
+
+-- whether they are 0 as they stand: of one byte, of the bytes from place i on, of whole entries
+abbrev pub clearByte : ℕ → ℕ → Bool
+clearByte i b = pick (eqb (i % entryBytes) 5) (eqb (ignoredOf b) 0) true
+
+unfoldable pub clearFrom : ℕ → List ℕ → Bool
+clearFrom i [] = true
+clearFrom i (b ∷ v) = clearByte i b && clearFrom (suc i) v
+
+abbrev pub ignoredClear : List ℕ → Bool
+ignoredClear v = clearFrom 0 v
 
 -- the refusal's number, 0 for none; and the six bytes
 unfoldable pub badEntry : RelayPath → ℕ

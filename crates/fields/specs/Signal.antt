@@ -1,5 +1,5 @@
 -- The bytes of rssi and snr, 5.6 and 5.7 of the rules. `pos n` is n, and `negsuc n` is -(n + 1). Assumes nothing.
-use Prim.Native.Nat.{ℕ, zero, suc, _+_, _-_, _%_}
+use Prim.Native.Nat.{ℕ, zero, suc, _+_, _-_, _/_, _%_}
 use lib.IntN.{ℤ, pos, negsuc, negℤ}
 use lib.Dec.{ltb}
 use Rattle.base.specs.Pick.{pick}
@@ -13,6 +13,10 @@ rssiOf b = negℤ (pos b)
 
 unfoldable pub snrOf : ℕ → ℤ
 snrOf b = pick (ltb (b % 64) 32) (pos (b % 64)) (negℤ (pos (64 - b % 64)))
+
+-- the top two bits of an snr byte, which are ignored when read
+abbrev pub ignoredOf : ℕ → ℕ
+ignoredOf b = b / 64
 
 -- 10 over 0, 11 under -255
 unfoldable pub rssiByte : ℤ → SignalByte

@@ -2,8 +2,9 @@
 // compared at once.
 ghost use mathlib.Core.Path.{_≡_};
 ghost use Rattle.base.specs.Answers.{refused};
-ghost use Rattle.fields.specs.Path.{pathOf, pathBytes, pathAnswer};
+ghost use Rattle.fields.specs.Path.{pathOf, pathBytes, pathAnswer, ignoredClear};
 use crate::signal::SignalByte;
+use crate::signal::ignored_of;
 use crate::signal::rssi_byte;
 use crate::signal::rssi_of;
 use crate::signal::snr_byte;
@@ -62,5 +63,19 @@ impl RelayPath {
                 }
             },
         }
+    }
+
+    // Whether the ignored bits of each are 0, of entries one behind the other.
+    pub fn ignored_clear(path: &[u8]) -> bool
+        ensures { λ r. ⌜ r ≡ ignoredClear (now (path .entry)) ⌝ }
+    {
+        let mut at: usize = 0;
+        while RelayPath::LENGTH <= path.len() - at {
+            if ignored_of(path[at + 5]) != 0 {
+                return false;
+            }
+            at += RelayPath::LENGTH;
+        }
+        true
     }
 }

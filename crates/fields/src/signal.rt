@@ -1,6 +1,6 @@
 // Rssi is minus a byte; snr the low six bits of one as a signed number. Uplinks and path entries read and write them here.
 ghost use mathlib.Core.Path.{_≡_};
-ghost use Rattle.fields.specs.Signal.{rssiOf, snrOf, rssiByte, snrByte};
+ghost use Rattle.fields.specs.Signal.{rssiOf, snrOf, ignoredOf, rssiByte, snrByte};
 use base::Refusal;
 
 pub struct Rssi;
@@ -35,6 +35,13 @@ pub fn snr_of(b: u8) -> i8
 {
     let n = b % 64;
     if n < 32 { n as i8 } else { -((64 - n) as i8) }
+}
+
+// The top two bits of an snr byte: no part of the snr.
+pub fn ignored_of(b: u8) -> u8
+    ensures { λ r. ⌜ r ≡ ignoredOf b ⌝ }
+{
+    b / 64
 }
 
 pub fn rssi_byte(x: i16) -> SignalByte

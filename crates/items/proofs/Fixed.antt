@@ -9,6 +9,8 @@ use Rattle.items.proofs.item.Event.count.Kinds as event-count-kinds
 use Rattle.items.proofs.item.Event.count.Reads as event-count-reads
 use Rattle.items.proofs.item.Command.count.Kinds as command-count-kinds
 use Rattle.items.proofs.item.Command.count.Reads as command-count-reads
+use Rattle.items.proofs.item.is_beat.Kinds as is-beat-kinds
+use Rattle.items.proofs.item.is_beat.Reads as is-beat-reads
 use Rattle.items.proofs.item.next_item.Kinds as next-item-kinds
 use Rattle.items.proofs.item.next_item.Reads as next-item-reads
 use Rattle.items.proofs.item.Event.decode.Kinds as event-decode-kinds
@@ -33,6 +35,9 @@ event-count κs a x y v w p q = (p ∙ sym q, refl)
 
 command-count : Fixed 1 command-count-kinds.ps command-count-kinds.r command-count-reads.Post
 command-count κs a x y v w p q = (p ∙ sym q, refl)
+
+is-beat : Fixed 0 is-beat-kinds.ps is-beat-kinds.r is-beat-reads.Post
+is-beat κs a x y v w p q = (p ∙ sym q, refl)
 
 next-item : Fixed 1 next-item-kinds.ps next-item-kinds.r next-item-reads.Post
 next-item κs a x y v w p q = (p ∙ sym q, refl)

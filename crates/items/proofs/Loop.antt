@@ -2,22 +2,20 @@
 -- Assumes nothing.
 use Prim.Native.Nat.{ℕ, _+_, _-_, _≤_}
 use native.Mathlib.Omega.{arith}
-use mathlib.Core.Bool.{Bool, true, false}
-use mathlib.Core.Path.{_≡_, refl, sym, ap, _∙_}
+use mathlib.Core.Bool.{Bool, true, false, _&&_, and-true, and-false, and-assoc}
+use mathlib.Core.Path.{_≡_, refl, sym, ap, ap₂, _∙_}
 use mathlib.Core.List.{List}
-use lib.Dec.{eqb}
 use lib.ListN.{length, getD, drop, length-drop}
 use lib.Seq.{length-take-le}
-use borrow.Author.Tests.{ne-eqb}
-use Rattle.base.specs.Pick.{pick}
+use Rattle.wire.specs.Part.{partOf}
 use Rattle.wire.specs.declared.run.Run.{Run}
 use Rattle.items.specs.declared.item.Item.{Item}
 use Rattle.items.specs.declared.item.ItemRead.the-variants.{Kept, Skipped, Cut, End}
 use Rattle.items.specs.declared.count.Opening.{Opening}
-use Rattle.items.specs.Items.{pieces, itemAt, openingOf, keptItems, skippedItems, keptBytes, skippedBytes, cutBytes, isClean}
-use Rattle.items.proofs.Laws.{turn}
+use Rattle.items.specs.Items.{pieces, itemAt, openingOf, keptItems, skippedItems, keptBytes, skippedBytes, cutBytes, keptClean, isClean}
+use Rattle.items.proofs.Laws.{turn, kept-value}
 
-pub record Sofar (ev : Bool) (s : List ℕ) (at k sk kb sb : ℕ) : Type 0 where
+pub record Sofar (ev : Bool) (s : List ℕ) (at k sk kb sb : ℕ) (cl : Bool) : Type 0 where
   pub within : at ≤ length s
   pub bytes : kb + sb ≡ at
   pub few : k + sk ≤ at
@@ -26,9 +24,9 @@ pub record Sofar (ev : Bool) (s : List ℕ) (at k sk kb sb : ℕ) : Type 0 where
   pub kept-bytes : kb + keptBytes (pieces ev 0 (drop at s)) ≡ keptBytes (pieces ev 0 s)
   pub skipped-bytes : sb + skippedBytes (pieces ev 0 (drop at s)) ≡ skippedBytes (pieces ev 0 s)
   pub cut-bytes : cutBytes (pieces ev 0 (drop at s)) ≡ cutBytes (pieces ev 0 s)
-  pub clean : pick (eqb sk 0) (isClean (pieces ev 0 (drop at s))) false ≡ isClean (pieces ev 0 s)
+  pub clean : (cl && isClean ev (pieces ev 0 (drop at s))) ≡ isClean ev (pieces ev 0 s)
 
-pub none-yet : (ev : Bool) (s : List ℕ) → Sofar ev s 0 0 0 0 0
+pub none-yet : (ev : Bool) (s : List ℕ) → Sofar ev s 0 0 0 0 0 true
 none-yet ev s =
     record {
       within = omega arith;
@@ -42,44 +40,15 @@ none-yet ev s =
       clean = refl;
     }
 
-never : (b : Bool) → pick b false false ≡ false
-never true = refl
-never false = refl
-
-as-it-is : (b : Bool) → pick b true false ≡ b
-as-it-is true = refl
-as-it-is false = refl
-
-module _ (ev : Bool) (s : List ℕ) (at k sk kb sb : ℕ) (f : Sofar ev s at k sk kb sb) where
-  pub one-kept : (i : Item) (nx : ℕ) → itemAt ev s at ≡ Kept i nx → Sofar ev s nx (k + 1) sk (kb + (nx - at)) sb
-  one-kept i nx e =
+module _ (ev : Bool) (s : List ℕ) (at k sk kb sb : ℕ) (cl : Bool) (f : Sofar ev s at k sk kb sb cl) where
+  pub one-kept : (i : Item) (nx : ℕ) → itemAt ev s at ≡ Kept i nx → (v : List ℕ) → v ≡ partOf s (i .value .start) (i .value .len)
+      → (b : Bool) → b ≡ keptClean ev (i .tag) v → Sofar ev s nx (k + 1) sk (kb + (nx - at)) sb (cl && b)
+  one-kept i nx e v ve b be =
       let u = turn ev s at _ e in
       let h : getD s (at + 1) 0 ≤ length (drop (at + 2) s) = simp length-drop (omega arith) in
       let l = length-take-le (getD s (at + 1) 0) (drop (at + 2) s) h in
       let a = ap keptItems (u .3) in
-      let b = ap skippedItems (u .3) in
-      let c = ap keptBytes (u .3) in
-      let d = ap skippedBytes (u .3) in
-      let g = ap cutBytes (u .3) in
-      record {
-        within = omega arith;
-        bytes = omega arith;
-        few = omega arith;
-        kept = omega arith;
-        skipped = omega arith;
-        kept-bytes = omega arith;
-        skipped-bytes = omega arith;
-        cut-bytes = omega arith;
-        clean = ap (λ (x : Bool). pick (eqb sk 0) x false) (sym (ap isClean (u .3))) ∙ f .clean;
-      }
-
-  pub one-skipped : (i : Item) (nx : ℕ) → itemAt ev s at ≡ Skipped i nx → Sofar ev s nx k (sk + 1) kb (sb + (nx - at))
-  one-skipped i nx e =
-      let u = turn ev s at _ e in
-      let h : getD s (at + 1) 0 ≤ length (drop (at + 2) s) = simp length-drop (omega arith) in
-      let l = length-take-le (getD s (at + 1) 0) (drop (at + 2) s) h in
-      let a = ap keptItems (u .3) in
-      let b = ap skippedItems (u .3) in
+      let y = ap skippedItems (u .3) in
       let c = ap keptBytes (u .3) in
       let d = ap skippedBytes (u .3) in
       let g = ap cutBytes (u .3) in
@@ -93,8 +62,30 @@ module _ (ev : Bool) (s : List ℕ) (at k sk kb sb : ℕ) (f : Sofar ev s at k s
         skipped-bytes = omega arith;
         cut-bytes = omega arith;
         clean =
-            ap (λ (x : Bool). pick x (isClean (pieces ev 0 (drop nx s))) false) (ne-eqb (sk + 1) 0 (λ q. omega arith))
-            ∙ sym (never (eqb sk 0)) ∙ ap (λ (x : Bool). pick (eqb sk 0) x false) (sym (ap isClean (u .3))) ∙ f .clean;
+            and-assoc cl b _ ∙ ap (λ (x : Bool). cl && (x && isClean ev (pieces ev 0 (drop nx s)))) (be ∙ ap₂ (keptClean ev) (ap (λ (x : Item). x .tag) (u .0)) (ve ∙ kept-value ev s at i nx e))
+            ∙ ap (λ (x : Bool). cl && x) (sym (ap (isClean ev) (u .3))) ∙ f .clean;
+      }
+
+  pub one-skipped : (i : Item) (nx : ℕ) → itemAt ev s at ≡ Skipped i nx → Sofar ev s nx k (sk + 1) kb (sb + (nx - at)) false
+  one-skipped i nx e =
+      let u = turn ev s at _ e in
+      let h : getD s (at + 1) 0 ≤ length (drop (at + 2) s) = simp length-drop (omega arith) in
+      let l = length-take-le (getD s (at + 1) 0) (drop (at + 2) s) h in
+      let a = ap keptItems (u .3) in
+      let y = ap skippedItems (u .3) in
+      let c = ap keptBytes (u .3) in
+      let d = ap skippedBytes (u .3) in
+      let g = ap cutBytes (u .3) in
+      record {
+        within = omega arith;
+        bytes = omega arith;
+        few = omega arith;
+        kept = omega arith;
+        skipped = omega arith;
+        kept-bytes = omega arith;
+        skipped-bytes = omega arith;
+        cut-bytes = omega arith;
+        clean = sym (and-false cl) ∙ ap (λ (x : Bool). cl && x) (sym (ap (isClean ev) (u .3))) ∙ f .clean;
       }
 
   pub at-cut : (r : Run) (nx : ℕ) → itemAt ev s at ≡ Cut r nx
@@ -103,7 +94,7 @@ module _ (ev : Bool) (s : List ℕ) (at k sk kb sb : ℕ) (f : Sofar ev s at k s
   at-cut r nx e =
       let u = turn ev s at _ e in
       let a = ap keptItems (u .3) in
-      let b = ap skippedItems (u .3) in
+      let y = ap skippedItems (u .3) in
       let c = ap keptBytes (u .3) in
       let d = ap skippedBytes (u .3) in
       let g = ap cutBytes (u .3) in
@@ -114,11 +105,11 @@ module _ (ev : Bool) (s : List ℕ) (at k sk kb sb : ℕ) (f : Sofar ev s at k s
       let t : kb ≡ keptBytes (pieces ev 0 s) = omega arith in
       let v : sb ≡ skippedBytes (pieces ev 0 s) = omega arith in
       let w : r .len ≡ cutBytes (pieces ev 0 s) = omega arith in
-      let z : false ≡ isClean (pieces ev 0 s) = sym (never (eqb sk 0)) ∙ ap (λ (x : Bool). pick (eqb sk 0) x false) (sym (ap isClean (u .3))) ∙ f .clean in
+      let z : false ≡ isClean ev (pieces ev 0 s) = sym (and-false cl) ∙ ap (λ (x : Bool). cl && x) (sym (ap (isClean ev) (u .3))) ∙ f .clean in
       cc
 
   pub at-end : (nx : ℕ) → itemAt ev s at ≡ End nx
-      → _≡_ {A = Opening} (record { kept = k; skipped = sk; «kept_bytes» = kb; «skipped_bytes» = sb; «cut_bytes» = 0; clean = eqb sk 0 }) (openingOf ev s)
+      → _≡_ {A = Opening} (record { kept = k; skipped = sk; «kept_bytes» = kb; «skipped_bytes» = sb; «cut_bytes» = 0; clean = cl }) (openingOf ev s)
   unfolding openingOf
   at-end nx e =
       let u = turn ev s at _ e in
@@ -132,5 +123,5 @@ module _ (ev : Bool) (s : List ℕ) (at k sk kb sb : ℕ) (f : Sofar ev s at k s
       let t : kb ≡ keptBytes (pieces ev 0 s) = omega arith in
       let v : sb ≡ skippedBytes (pieces ev 0 s) = omega arith in
       let w : 0 ≡ cutBytes (pieces ev 0 s) = omega arith in
-      let z : eqb sk 0 ≡ isClean (pieces ev 0 s) = sym (as-it-is (eqb sk 0)) ∙ ap (λ (x : Bool). pick (eqb sk 0) x false) (sym (ap isClean (u .2))) ∙ f .clean in
+      let z : cl ≡ isClean ev (pieces ev 0 s) = sym (and-true cl) ∙ ap (λ (x : Bool). cl && x) (sym (ap (isClean ev) (u .2))) ∙ f .clean in
       cc

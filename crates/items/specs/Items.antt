@@ -1,7 +1,7 @@
 -- The items of a payload: tag, length, value; how the reader goes from one to the next, and what an opening reports of them. `ev` says
 -- whether the payload is an event's. Assumes nothing.
 use Prim.Native.Nat.{ℕ, zero, suc, _+_, _-_, _%_, _≤_, _<_}
-use mathlib.Core.Bool.{Bool, true, false, not}
+use mathlib.Core.Bool.{Bool, true, false, not, _&&_}
 use mathlib.Core.Path.{_≡_}
 use mathlib.Core.List.{List, [], _∷_}
 use lib.Dec.{ltb, leb, eqb}
@@ -10,6 +10,7 @@ use Rattle.base.specs.Pick.{pick}
 use Rattle.base.specs.Numbers.{frameLong, payloadMost}
 use Rattle.base.specs.Answers.{Answer, value, number}
 use Rattle.wire.specs.declared.run.Run.{Run}
+use Rattle.fields.specs.Path.{ignoredClear}
 use Rattle.items.specs.declared.item.ItemKind.{ItemKind}
 use Rattle.items.specs.declared.item.ItemKind.the-variants.{Encrypted, Heartbeat, Proprietary}
 use Rattle.items.specs.declared.item.Item.{Item}
@@ -79,12 +80,16 @@ cutBytes (kept t v ∷ ps) = cutBytes ps
 cutBytes (skipped v ∷ ps) = cutBytes ps
 cutBytes (cut v ∷ ps) = length v + cutBytes ps
 
--- nothing was skipped or cut
-abbrev pub isClean : List Piece → Bool
-isClean [] = true
-isClean (kept t v ∷ ps) = isClean ps
-isClean (skipped v ∷ ps) = false
-isClean (cut v ∷ ps) = false
+-- the ignored bits of a heartbeat's entries are 0; nothing is asked of any other item
+abbrev pub keptClean : Bool → ℕ → List ℕ → Bool
+keptClean ev t v = pick (isBeat ev t) (ignoredClear v) true
+
+-- nothing was skipped or cut, and each item that was kept is clean
+abbrev pub isClean : Bool → List Piece → Bool
+isClean ev [] = true
+isClean ev (kept t v ∷ ps) = keptClean ev t v && isClean ev ps
+isClean ev (skipped v ∷ ps) = false
+isClean ev (cut v ∷ ps) = false
 
 unfoldable pub openingOf : Bool → List ℕ → Opening
 openingOf ev s =
@@ -94,7 +99,7 @@ openingOf ev s =
       «kept_bytes» = keptBytes (pieces ev 0 s);
       «skipped_bytes» = skippedBytes (pieces ev 0 s);
       «cut_bytes» = cutBytes (pieces ev 0 s);
-      clean = isClean (pieces ev 0 s);
+      clean = isClean ev (pieces ev 0 s);
     }
 
 abbrev pub nothing : Opening

@@ -1,13 +1,15 @@
 // What an opening reports: how many items a payload keeps and skips, and the bytes of those kept, of those skipped and of the cut tail.
 ghost use mathlib.Core.Path.{_≡_};
 ghost use mathlib.Core.Bool.{Bool};
-ghost use Rattle.items.specs.Items.{openingOf, nothing, countsOf};
+ghost use Rattle.items.specs.Items.{keptClean, openingOf, nothing, countsOf};
 use crate::item::Command;
 use crate::item::Event;
 use crate::item::ItemRead;
+use crate::item::is_beat;
 use crate::item::next_item;
 use base::Limit;
 use base::Refusal;
+use fields::RelayPath;
 
 pub struct Opening {
     pub kept: usize,
@@ -15,13 +17,23 @@ pub struct Opening {
     pub kept_bytes: usize,
     pub skipped_bytes: usize,
     pub cut_bytes: usize,
-    // Nothing was skipped or cut.
+    // Nothing was skipped or cut, and no path entry has an ignored bit set: writing the kept items gives the payload back.
     pub clean: bool,
 }
 
 pub enum OpeningRead {
     Opening(Opening),
     Refused(u8),
+}
+
+// Whether a kept item is written as it stands.
+fn kept_clean(is_event: bool, tag: u8, value: &[u8]) -> bool
+    ensures { λ r. ⌜ r ≡ keptClean «is_event» tag (now (value .entry)) ⌝ }
+{
+    if is_beat(is_event, tag) {
+        return RelayPath::ignored_clear(value);
+    }
+    true
 }
 
 // For the crates above: a payload of any length.
@@ -33,14 +45,18 @@ pub fn count_items(payload: &[u8], is_event: bool) -> Opening
     let mut skipped: usize = 0;
     let mut kept_bytes: usize = 0;
     let mut skipped_bytes: usize = 0;
+    let mut clean = true;
     loop {
         match next_item(payload, at, is_event) {
-            ItemRead::Kept { item: _, next } => {
+            ItemRead::Kept { item, next } => {
+                let run = item.value;
+                clean = clean & kept_clean(is_event, item.tag, run.bytes(payload));
                 kept = kept + 1;
                 kept_bytes = kept_bytes + (next - at);
                 at = next;
             }
             ItemRead::Skipped { item: _, next } => {
+                clean = false;
                 skipped = skipped + 1;
                 skipped_bytes = skipped_bytes + (next - at);
                 at = next;
@@ -62,7 +78,7 @@ pub fn count_items(payload: &[u8], is_event: bool) -> Opening
                     kept_bytes,
                     skipped_bytes,
                     cut_bytes: 0,
-                    clean: skipped == 0,
+                    clean,
                 };
             }
             ItemRead::Refused(_) => {

@@ -2,7 +2,7 @@
 ghost use mathlib.Core.Path.{_≡_};
 ghost use mathlib.Core.Bool as Bool;
 ghost use Prim.Native.Nat.{_≤_};
-ghost use Rattle.items.specs.Items.{kindOf, kindCode, badBeat, cutAt, itemAt, bareItemAt, sealedItem, typeOf};
+ghost use Rattle.items.specs.Items.{isBeat, kindOf, kindCode, badBeat, cutAt, itemAt, bareItemAt, sealedItem, typeOf};
 use base::Limit;
 use base::Refusal;
 use base::wide;
@@ -36,6 +36,15 @@ pub enum ItemRead {
 pub struct Event;
 
 pub struct Command;
+
+pub fn is_beat(is_event: bool, tag: u8) -> bool
+    ensures { λ r. ⌜ r ≡ isBeat «is_event» tag ⌝ }
+{
+    if is_event {
+        return tag == 0;
+    }
+    false
+}
 
 fn kind_of(is_event: bool, tag: u8) -> ItemKind
     ensures { λ r. ⌜ r ≡ kindOf «is_event» tag ⌝ }

@@ -10,4 +10,5 @@ pub use item::Event;
 pub use item::Item;
 pub use item::ItemKind;
 pub use item::ItemRead;
+pub use item::is_beat;
 pub use item::next_item;

@@ -3,17 +3,12 @@ use mathlib.Core.Path.{refl, sym, ap, _∙_}
 use mathlib.Core.List.{List}
 use Prim.Native.Nat.{ℕ}
 use Rattle.base.proofs.Outcome.{Fixed}
-use Rattle.kept_items.proofs.is_beat.Kinds as is-beat-kinds
-use Rattle.kept_items.proofs.is_beat.Reads as is-beat-reads
 use Rattle.kept_items.proofs.low_byte.Kinds as low-byte-kinds
 use Rattle.kept_items.proofs.low_byte.Reads as low-byte-reads
 use Rattle.kept_items.proofs.put_item.Kinds as put-item-kinds
 use Rattle.kept_items.proofs.put_item.Reads as put-item-reads
 use Rattle.kept_items.proofs.put_kept.Kinds as put-kept-kinds
 use Rattle.kept_items.proofs.put_kept.Reads as put-kept-reads
-
-is-beat : Fixed 0 is-beat-kinds.ps is-beat-kinds.r is-beat-reads.Post
-is-beat κs a x y v w p q = (p ∙ sym q, refl)
 
 low-byte : Fixed 0 low-byte-kinds.ps low-byte-kinds.r low-byte-reads.Post
 low-byte κs a x y v w p q = (p ∙ sym q, refl)

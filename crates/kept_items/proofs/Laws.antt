@@ -9,7 +9,7 @@ use Rattle.base.specs.Lists.{imap}
 use Rattle.base.proofs.Lists.{imap-length, imap-at, imap-id}
 use Rattle.wire.specs.Lay.{put}
 use Rattle.wire.proofs.Laws.Lay.{put-none, puts-join, Laying, laying-more}
-use Rattle.items.specs.Items.{isBeat, Piece, kept, skipped, cut, pieces, keptBytes, openingOf}
+use Rattle.items.specs.Items.{isBeat, Piece, kept, skipped, cut, pieces, keptItems, keptBytes, openingOf}
 use Rattle.items.specs.declared.count.Opening.{Opening}
 use Rattle.kept_items.specs.Kept.{fixed, itemBytes, keptWire, openBytes}
 
@@ -37,6 +37,18 @@ kept-length ev (cut v ∷ ps) = kept-length ev ps
 pub open-length : (ev : Bool) (s : List ℕ) → length (openBytes ev s) ≡ keptBytes (pieces ev 0 s)
 unfolding openBytes
 open-length ev s = kept-length ev (pieces ev 0 s)
+
+-- nothing is written of what keeps no item
+none-kept : (ev : Bool) (ps : List Piece) → keptItems ps ≡ 0 → keptWire ev ps ≡ []
+unfolding keptWire
+none-kept ev [] e = refl
+none-kept ev (kept t v ∷ ps) e = absurd (omega arith)
+none-kept ev (skipped v ∷ ps) e = none-kept ev ps e
+none-kept ev (cut v ∷ ps) e = none-kept ev ps e
+
+pub none-open : (ev : Bool) (s : List ℕ) → openingOf ev s .kept ≡ 0 → openBytes ev s ≡ []
+unfolding openingOf openBytes
+none-open ev s e = none-kept ev (pieces ev 0 s) e
 
 -- what an opening reports of the kept bytes is how many are written
 pub told : (ev : Bool) (s : List ℕ) (r : Opening) → r ≡ openingOf ev s → r .«kept_bytes» ≡ length (openBytes ev s)

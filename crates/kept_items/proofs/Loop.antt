@@ -7,7 +7,6 @@ use mathlib.Core.Path.{_≡_, refl, sym, ap, ap₂, _∙_}
 use mathlib.Core.List.{List, [], _++_}
 use lib.ListN.{length, getD, take, drop, length-append, length-drop}
 use lib.Seq.{length-take-le}
-use borrow.Author.Tests.{le-ltb}
 use Rattle.wire.specs.Lay.{put}
 use Rattle.wire.specs.Part.{partOf}
 use Rattle.wire.specs.declared.run.Run.{Run}
@@ -15,7 +14,7 @@ use Rattle.wire.proofs.Laws.Lay.{Joining, joining-none, joining-room, joining-m
 use Rattle.items.specs.Items.{isBeat, pieces, itemAt}
 use Rattle.items.specs.declared.item.Item.{Item}
 use Rattle.items.specs.declared.item.ItemRead.the-variants.{Kept, Skipped, Cut, End}
-use Rattle.items.proofs.Laws.{turn}
+use Rattle.items.proofs.Laws.{turn, kept-value}
 use Rattle.kept_items.specs.Kept.{itemBytes, keptWire, openBytes}
 use Rattle.kept_items.proofs.Laws.{item-length}
 
@@ -23,14 +22,6 @@ use Rattle.kept_items.proofs.Laws.{item-length}
 
 module _ (ev : Bool) (s : List ℕ) (p : ℕ) where
   module _ (i : Item) (nx : ℕ) (e : itemAt ev s p ≡ Kept i nx) where
-    -- the value's part is what the piece holds
-    part-is : partOf s (i .value .start) (i .value .len) ≡ take (getD s (p + 1) 0) (drop (p + 2) s)
-    unfolding partOf
-    part-is =
-        let u = turn ev s p _ e in
-        ap₂ (λ (a b : ℕ). partOf s a b) (ap (λ (x : Item). x .value .start) (u .0)) (ap (λ (x : Item). x .value .len) (u .0))
-        ∙ simp (le-ltb (length s) (p + 2) (omega arith), le-ltb (length s - (p + 2)) (getD s (p + 1) 0) (omega arith))
-
     module _ (b : Bool) (v : List ℕ) (be : b ≡ isBeat ev (i .tag)) (ve : v ≡ partOf s (i .value .start) (i .value .len)) where
       pub kept-size : nx - p ≡ length (itemBytes b (i .tag) v)
       kept-size =
@@ -38,7 +29,7 @@ module _ (ev : Bool) (s : List ℕ) (p : ℕ) where
           let h : getD s (p + 1) 0 ≤ length (drop (p + 2) s) = simp length-drop (omega arith) in
           let l = length-take-le (getD s (p + 1) 0) (drop (p + 2) s) h in
           let m = item-length b (i .tag) v in
-          let k = ap length (ve ∙ part-is) in
+          let k = ap length (ve ∙ kept-value ev s p i nx e) in
           omega arith
 
       pub kept-ahead : keptWire ev (pieces ev 0 (drop p s)) ≡ itemBytes b (i .tag) v ++ keptWire ev (pieces ev 0 (drop nx s))
@@ -47,7 +38,7 @@ module _ (ev : Bool) (s : List ℕ) (p : ℕ) where
           let u = turn ev s p _ e in
           let t = ap (λ (x : Item). x .tag) (u .0) in
           ap (keptWire ev) (u .3)
-          ∙ ap₂ (λ (a : ℕ) (w : List ℕ). itemBytes (isBeat ev a) a w ++ keptWire ev (pieces ev 0 (drop nx s))) (sym t) (sym (ve ∙ part-is))
+          ∙ ap₂ (λ (a : ℕ) (w : List ℕ). itemBytes (isBeat ev a) a w ++ keptWire ev (pieces ev 0 (drop nx s))) (sym t) (sym (ve ∙ kept-value ev s p i nx e))
           ∙ ap (λ (x : Bool). itemBytes x (i .tag) v ++ keptWire ev (pieces ev 0 (drop nx s))) (sym be)
 
   pub skipped-ahead : (i : Item) (nx : ℕ) → itemAt ev s p ≡ Skipped i nx → keptWire ev (pieces ev 0 (drop p s)) ≡ keptWire ev (pieces ev 0 (drop nx s))

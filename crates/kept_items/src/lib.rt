@@ -3,22 +3,13 @@ ghost use mathlib.Core.Path.{_≡_};
 ghost use Prim.Native.Nat.{_%_};
 ghost use Rattle.base.specs.Lists.{imap};
 ghost use Rattle.wire.specs.Lay.{put};
-ghost use Rattle.items.specs.Items.{isBeat};
 ghost use Rattle.kept_items.specs.Kept.{fixed, itemBytes, openBytes};
 use base::Limit;
 use items::ItemRead;
 use items::count_items;
+use items::is_beat;
 use items::next_item;
 use wire::put_all;
-
-pub fn is_beat(is_event: bool, tag: u8) -> bool
-    ensures { λ r. ⌜ r ≡ isBeat «is_event» tag ⌝ }
-{
-    if is_event {
-        return tag == 0;
-    }
-    false
-}
 
 fn fix(beat: bool, i: usize, b: u8) -> u8
     ensures { λ r. ⌜ r ≡ fixed beat i b ⌝ }

@@ -25,8 +25,8 @@ use heartbeats::entry;
 use heartbeats::held;
 use heartbeats::path_count;
 use items::ItemRead;
+use items::is_beat;
 use items::next_item;
-use kept_items::is_beat;
 use kept_items::low_byte;
 use wire::Run;
 

@@ -45,20 +45,27 @@ use Rattle.fields.proofs.Laws.Path.{path-back, path-again}
 use Rattle.heartbeats.specs.Heartbeat.{pathsOf, beatRefusal, beatOf, entryRead, beatWire, beatSays, pathSays, noPath, FourByteIds}
 use Rattle.heartbeats.specs.declared.heartbeat.HeartbeatPayload.{HeartbeatPayload}
 use Rattle.heartbeats.proofs.Laws.{refused-entries, taken-entries, beat-back}
-use Rattle.items.specs.Items.{isBeat, badBeat, kindOf, pathKind, itemAt, Turn, walkedTo, keptItem, noItem, itemSays, listedItems}
+use Rattle.items.specs.Items.{isBeat, badBeat, openingOf, kindOf, pathKind, itemAt, Turn, walkedTo, keptItem, noItem, itemSays, listedItems}
+use Rattle.items.specs.declared.count.Opening.{Opening}
 use Rattle.items.specs.declared.item.Item.{Item}
 use Rattle.items.specs.declared.item.ItemKind.the-variants.{Encrypted}
-use Rattle.items.proofs.Laws.{turn, walk-ends, kept-whole}
+use Rattle.items.proofs.Laws.{turn, walk-ends, kept-whole, clean-whole, command-clean}
 use Rattle.kept_items.specs.Kept.{itemBytes, openBytes}
-use Rattle.composed_items.specs.Composed.{lists, tagOf, composedWire, lentBack}
+use Rattle.kept_items.proofs.Clean.{clean-as-written}
+use Rattle.composed_items.specs.Composed.{Lists, lists, tagOf, composedWire, lentBack}
 use Rattle.composed_items.specs.One.{oneWire, sealedWire, encodedOf}
 use Rattle.composed_items.proofs.Alone.{read-encoded, read-encoded-plain, read-again, one-read, one-composed}
 use Rattle.composed_items.proofs.Again.{written-back}
+use Rattle.contents.specs.Content.{framed, contentWire}
+use Rattle.contents.specs.declared.content.Content.{Content}
+use Rattle.contents.specs.declared.content.Content.the-variants.{Sealed}
 use Rattle.packets.specs.Read.{meshOf, meshSays}
+use Rattle.sealing.specs.Open.{sealWire, decryptOf, workAfter, decodeOf, told, openedSays}
+use Rattle.sealing.proofs.Clean.{decrypted-clean, decoded-clean}
 use Rattle.round_trips.specs.Which.{leastFrame, meshNumber}
 use Rattle.cache.specs.inner.Ring.{newOf}
 use Rattle.promises.specs.Said.{Accepts}
-use Rattle.promises.proofs.Said.{header-said, byte-said, signal-said, item-said}
+use Rattle.promises.proofs.Said.{header-said, byte-said, signal-said, item-said, opened-said}
 use Rattle.promises.proofs.Demand2.{mesh-reader-reads, mesh-reader-refuses}
 
 -- ---- the header byte
@@ -323,6 +330,31 @@ unfolding signingKey encryptionKey
 derived-keys root = (refl, refl)
 
 -- ---- items and heartbeats
+
+-- 7.8: a payload is clean exactly if what is written of its kept items is the payload, of an event and of a command
+pub clean-exactly-if-written-again : (ev : Bool) (s : List ℕ) → Bytes s → (openingOf ev s .clean ≡ true → openBytes ev s ≡ s) × (openBytes ev s ≡ s → openingOf ev s .clean ≡ true)
+clean-exactly-if-written-again = clean-as-written
+
+-- so it is of what `decrypt` opens into the work buffer w, of which s are the clear bytes, and of what `decode` opens in the frame f: with the
+-- buffers that hold it lent, the content c is written as the payload exactly if its opening o is clean
+pub decrypted-clean-exactly-if-written-again : (key : List ℕ) (ev : Bool) (relay time : ℕ) (r : Run) (f w s : List ℕ) (x : Lists) (c : Content) (o : Opening)
+    → sealWire key ev relay time f r ≡ bytes s → Bytes s → openedSays (decryptOf key ev relay time (Sealed r) f w) ≡ value (told c o)
+    → x .src ≡ workAfter key ev relay time (Sealed r) f w
+    → (o .clean ≡ true → contentWire ev (framed f x) c ≡ bytes s) × (contentWire ev (framed f x) c ≡ bytes s → o .clean ≡ true)
+decrypted-clean-exactly-if-written-again key ev relay time r f w s x c o e b d m =
+    decrypted-clean key ev relay time r f w s x c o e b m (opened-said (decryptOf key ev relay time (Sealed r) f w) c o d)
+
+pub decoded-clean-exactly-if-written-again : (ev : Bool) (r : Run) (f w : List ℕ) (x : Lists) (c : Content) (o : Opening)
+    → Bytes (runBytes f r) → openedSays (decodeOf ev (Sealed r) f w) ≡ value (told c o)
+    → (o .clean ≡ true → contentWire ev (framed f x) c ≡ bytes (runBytes f r)) × (contentWire ev (framed f x) c ≡ bytes (runBytes f r) → o .clean ≡ true)
+decoded-clean-exactly-if-written-again ev r f w x c o b d = decoded-clean ev r f w x c o b (opened-said (decodeOf ev (Sealed r) f w) c o d)
+
+-- what is clean skipped and cut nothing; in a command, where nothing is skipped, that is all
+pub clean-skips-and-cuts-nothing : (ev : Bool) (s : List ℕ) → openingOf ev s .clean ≡ true → (openingOf ev s .skipped ≡ 0) × (openingOf ev s .«cut_bytes» ≡ 0)
+clean-skips-and-cuts-nothing = clean-whole
+
+pub command-clean-exactly-if-nothing-cut : (s : List ℕ) → openingOf false s .clean ≡ eqb (openingOf false s .«cut_bytes») 0
+command-clean-exactly-if-nothing-cut = command-clean
 
 -- 7.9: what the item reader answers at a place, as `Turn` says, is the first of the payload's pieces from there, and where the next begins
 pub one-item-at-a-time : (ev : Bool) (s : List ℕ) (at : ℕ) → Turn ev s at (itemAt ev s at)

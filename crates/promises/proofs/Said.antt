@@ -19,6 +19,8 @@ use Rattle.items.specs.Items.{itemSays, keptItem}
 use Rattle.items.specs.declared.item.Item.{Item}
 use Rattle.items.specs.declared.item.ItemRead.{ItemRead}
 use Rattle.items.specs.declared.item.ItemRead.the-variants as item
+use Rattle.items.specs.declared.count.Opening.{Opening}
+use Rattle.contents.specs.declared.content.Content.{Content}
 use Rattle.links.specs.Read.{uplinkSays, downlinkSays}
 use Rattle.links.specs.declared.uplink.UplinkPayload.{UplinkPayload}
 use Rattle.links.specs.declared.uplink.UplinkRead.{UplinkRead}
@@ -40,6 +42,9 @@ use Rattle.packets.specs.declared.mesh.MeshRead.the-variants as mesh
 use Rattle.packets.specs.declared.any.Packet.{Packet}
 use Rattle.packets.specs.declared.any.PacketRead.{PacketRead}
 use Rattle.packets.specs.declared.any.PacketRead.the-variants as packet
+use Rattle.sealing.specs.Open.{told, openedSays}
+use Rattle.sealing.specs.declared.content.Opened.{Opened}
+use Rattle.sealing.specs.declared.content.Opened.the-variants as opened
 
 never : _≡_ {A = ℕ} 0 1 → ⊥
 never e = omega arith
@@ -82,6 +87,11 @@ event-said (event.Refused n) p e = absurd (never (cc))
 pub command-said : (r : CommandRead) (p : CommandPayload) → commandSays r ≡ value p → r ≡ command.Payload p
 command-said (command.Payload q) p e = cc
 command-said (command.Refused n) p e = absurd (never (cc))
+
+pub opened-said : (r : Opened) (c : Content) (o : Opening) → openedSays r ≡ value (told c o) → r ≡ opened.Opened c o
+opened-said (opened.Opened b k) c o e = cc
+opened-said opened.AlreadyOpen c o e = absurd (never (cc))
+opened-said (opened.Refused n) c o e = absurd (never (cc))
 
 pub mesh-said : (r : MeshRead) (p : MeshPacket) → meshSays r ≡ value p → r ≡ mesh.Mesh p
 mesh-said (mesh.Mesh q) p e = cc

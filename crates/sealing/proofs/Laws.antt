@@ -31,14 +31,14 @@ use Rattle.sealing.proofs.Steps.{part-front}
 
 -- a run at the front of what is lent lies inside, and is what stands there
 module _ (w rest : List ℕ) where
-  abbrev front : Run
+  abbrev pub front : Run
   front = record { start = 0; len = length w }
 
-  front-inside : runRefusal (length (w ++ rest)) front ≡ 0
+  pub front-inside : runRefusal (length (w ++ rest)) front ≡ 0
   unfolding runRefusal
   front-inside = let l = length-append w rest in ap reachNumber (inside (length (w ++ rest)) 0 (length w) (omega arith))
 
-  front-bytes : runBytes (w ++ rest) front ≡ w
+  pub front-bytes : runBytes (w ++ rest) front ≡ w
   front-bytes = part-front w rest
 
 -- no bytes, sealed and opened, are nothing

@@ -1,16 +1,22 @@
 -- Laws of a path entry. Assumes nothing.
-use Prim.Native.Nat.{ℕ, _*_, _%_, _<_}
+use Prim.Native.Nat.{ℕ, suc, _+_, _*_, _/_, _%_, _≤_, _<_}
 use native.Mathlib.Omega.{arith}
-use mathlib.Core.Path.{_≡_, refl, _∙_}
+use mathlib.Core.Bool.{Bool, true, false, _&&_, and-eq-true-iff}
+use mathlib.Core.Path.{_≡_, refl, ap, ap₂, _∙_}
 use mathlib.Core.List.{List, [], _∷_}
-use lib.ListN.{length, getD, length-append}
-use Rattle.base.specs.Lists.{Bytes, joined}
+use lib.Dec.{eqb}
+use lib.ListN.{length, getD, drop, length-append, length-drop}
+use lib.Seq.{drop-cons}
+use borrow.Author.Tests.{eq-eqb, ne-eqb, eqb-true}
+use Rattle.base.specs.Pick.{pick}
+use Rattle.base.specs.Lists.{Bytes, imap, joined}
+use Rattle.base.proofs.Lists.{_◂_}
 use Rattle.base.specs.Answers.{bytes, bytesOr}
 use Rattle.wire.specs.Number.{beBytes}
 use Rattle.wire.proofs.Laws.Number.{be-length, of-bytes, bytes-of}
-use Rattle.fields.specs.Signal.{rssiByte, snrByte}
+use Rattle.fields.specs.Signal.{ignoredOf, rssiByte, snrByte}
 use Rattle.fields.specs.Meta.{afterRssi}
-use Rattle.fields.specs.Path.{pathOf, pathWire, sixOf}
+use Rattle.fields.specs.Path.{pathOf, pathWire, entryByte, clearByte, clearFrom, ignoredClear, sixOf}
 use Rattle.fields.specs.declared.signal.SignalByte.{SignalByte}
 use Rattle.fields.specs.declared.signal.SignalByte.the-variants.{Byte, Refused as NoByte}
 use Rattle.fields.specs.declared.path.RelayPath.{RelayPath}
@@ -52,3 +58,68 @@ pub joined-length : (ps : List RelayPath) → length (joined sixOf ps) ≡ lengt
 unfolding joined
 joined-length [] = refl
 joined-length (p ∷ ps) = let e = joined-length ps in let s = six-length p in length-append (sixOf p) (joined sixOf ps) ∙ omega arith
+
+-- ---- the ignored bits
+
+clear-cons : (i b : ℕ) (v : List ℕ) → clearFrom i (b ∷ v) ≡ (clearByte i b && clearFrom (suc i) v)
+unfolding clearFrom
+clear-cons i b v = refl
+
+-- from place i of v on: a byte, which is the sixth of an entry or not; an entry; and what is less than an entry
+module _ (v : List ℕ) (i j : ℕ) (h : i < length v) (n : suc i ≡ j) where
+  clear-byte : (t : Bool) → eqb (i % 6) 5 ≡ t → clearFrom i (drop i v) ≡ (pick t (eqb (ignoredOf (getD v i 0)) 0) true && clearFrom j (drop j v))
+  clear-byte t e =
+      ap (clearFrom i) (drop-cons v i 0 h) ∙ clear-cons i (getD v i 0) (drop (suc i) v)
+      ∙ ap₂ (λ (u : Bool) (k : ℕ). pick u (eqb (ignoredOf (getD v i 0)) 0) true && clearFrom k (drop k v)) e n
+
+  clear-next : (i % 6 ≡ 5 → ⊥) → clearFrom i (drop i v) ≡ clearFrom j (drop j v)
+  clear-next e = clear-byte false (ne-eqb (i % 6) 5 e)
+
+module _ (v : List ℕ) (i : ℕ) (h : i % 6 ≡ 0) (l : i + 6 ≤ length v) where
+  entry-by : (t : Bool) → eqb (ignoredOf (getD v (i + 5) 0)) 0 ≡ t → clearFrom i (drop i v) ≡ (t && clearFrom (i + 6) (drop (i + 6) v))
+  entry-by t e =
+      clear-next v i (i + 1) (omega arith) (omega arith) (λ z. omega arith)
+      ∙ clear-next v (i + 1) (i + 2) (omega arith) (omega arith) (λ z. omega arith)
+      ∙ clear-next v (i + 2) (i + 3) (omega arith) (omega arith) (λ z. omega arith)
+      ∙ clear-next v (i + 3) (i + 4) (omega arith) (omega arith) (λ z. omega arith)
+      ∙ clear-next v (i + 4) (i + 5) (omega arith) (omega arith) (λ z. omega arith)
+      ∙ clear-byte v (i + 5) (i + 6) (omega arith) (omega arith) true (eq-eqb ((i + 5) % 6) 5 (omega arith))
+      ∙ ap (λ (u : Bool). u && clearFrom (i + 6) (drop (i + 6) v)) e
+
+  pub entry-clear : ignoredOf (getD v (i + 5) 0) ≡ 0 → clearFrom i (drop i v) ≡ clearFrom (i + 6) (drop (i + 6) v)
+  entry-clear e = entry-by true (eq-eqb _ 0 e)
+
+  pub entry-set : (ignoredOf (getD v (i + 5) 0) ≡ 0 → ⊥) → clearFrom i (drop i v) ≡ false
+  entry-set e = entry-by false (ne-eqb _ 0 e)
+
+few-clear : (i : ℕ) (v : List ℕ) → i % 6 + length v < 6 → clearFrom i v ≡ true
+unfolding clearFrom
+few-clear i [] h = refl
+few-clear i (b ∷ v) h =
+    let e : i % 6 ≡ 5 → ⊥ = λ z. omega arith in
+    simp (ne-eqb (i % 6) 5 e) (few-clear (suc i) v (omega arith))
+
+pub clear-end : (v : List ℕ) (i : ℕ) → i % 6 ≡ 0 → length v < i + 6 → clearFrom i (drop i v) ≡ true
+clear-end v i h l = let n = length-drop i v in few-clear i (drop i v) (omega arith)
+
+-- bytes are written as they are exactly if their ignored bits are 0
+byte-clear : (i b : ℕ) → (clearByte i b ≡ true → entryByte i b ≡ b) × (entryByte i b ≡ b → clearByte i b ≡ true)
+byte-clear i b = by (eqb (i % 6) 5)
+  where
+    by : (t : Bool)
+        → (pick t (eqb (ignoredOf b) 0) true ≡ true → pick t (b % 64) b ≡ b) × (pick t (b % 64) b ≡ b → pick t (eqb (ignoredOf b) 0) true ≡ true)
+    by true = (λ e. let z = eqb-true (ignoredOf b) 0 e in omega arith, λ e. eq-eqb (ignoredOf b) 0 (omega arith))
+    by false = (λ e. refl, λ e. refl)
+
+clear-from : (i : ℕ) (v : List ℕ) → (clearFrom i v ≡ true → imap entryByte i v ≡ v) × (imap entryByte i v ≡ v → clearFrom i v ≡ true)
+unfolding clearFrom
+clear-from i [] = (λ e. refl, λ e. refl)
+clear-from i (b ∷ v) =
+    let one = byte-clear i b in
+    let more = clear-from (suc i) v in (
+      λ e. let q = and-eq-true-iff (clearByte i b) (clearFrom (suc i) v) .0 e in one .0 (q .0) ◂ more .0 (q .1),
+      λ e. ap₂ _&&_ (one .1 (cc)) (more .1 (cc)),
+    )
+
+pub clear-as-written : (v : List ℕ) → (ignoredClear v ≡ true → imap entryByte 0 v ≡ v) × (imap entryByte 0 v ≡ v → ignoredClear v ≡ true)
+clear-as-written v = clear-from 0 v
