@@ -6,7 +6,7 @@
 #![allow(dead_code)]
 
 // from include/mesh.table: codes
-pub(crate) const MESH_VERSION: u32 = 4;
+pub(crate) const MESH_VERSION: u32 = 5;
 
 // enum mesh_size
 pub(crate) const MESH_CACHE_WORDS: usize = 195;

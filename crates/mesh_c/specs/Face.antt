@@ -48,7 +48,7 @@ use Rattle.cache_words.specs.inner.Packed.{addAnswer, addWords}
 
 -- the version of the declarations in include/mesh.h
 abbrev pub faceVersion : ℕ
-faceVersion = 4
+faceVersion = 5
 
 -- ---- keys, fields and items
 
