@@ -1,4 +1,5 @@
-/* Every payload of up to 14 bytes over a few small alphabets, as an event's and as a command's: what the library calls clean, held to what it writes.
+/* Every payload over a few small alphabets, of up to 14 bytes or 11, as an event's and as a command's: what the library calls clean, held to what it
+   writes.
    Each is sealed, opened and written again: clean has to be said exactly where the payload's own bytes are written. It has to be said the same by
    mesh_packet_decode, by mesh_items_count and by `kept_as_is` below. Prints the counts; the status is 1 where anything is otherwise. */
 #include "mesh.h"
@@ -8,9 +9,14 @@
 
 enum { LONGEST = 14, HEAD = 9, MIC = 4, FRAME = HEAD + LONGEST + MIC };
 
-/* A tag 0, which is a heartbeat's in an event; the length of one path entry, or of two; one ignored bit, or the other; or a length that is no entry's. */
-static const uint8_t ALPHABETS[][3] = {{0, 6, 0x40}, {0, 6, 0x80}, {0, 12, 0x40}, {0, 12, 0x80}, {0, 1, 6}};
-static const uint32_t PAYLOADS = 35872265, CLEAN[] = {5385386, 4086620};
+/* Tag 0, which is a heartbeat's in an event; the length of one path entry, or of two; one ignored bit, or the other; a length that is no path's. In
+   11 bytes there is room for a heartbeat of one entry and one that is skipped. */
+static const struct {
+    size_t longest, letters;
+    uint8_t letter[4];
+} ALPHABETS[] = {{14, 3, {0, 6, 0x40}}, {14, 3, {0, 6, 0x80}}, {14, 3, {0, 12, 0x40}}, {14, 3, {0, 12, 0x80}}, {14, 3, {0, 1, 6}},
+                 {11, 4, {0, 1, 6, 0x40}}, {11, 4, {0, 1, 6, 0x80}}};
+static const uint32_t PAYLOADS = 47057075, CLEAN[] = {6977652, 5231486};
 
 static const uint8_t KEY[16] = {1, 2, 3, 4, 5, 6, 7, 8, 9, 10, 11, 12, 13, 14, 15, 16};
 static const uint8_t HEADS[2][HEAD] = {{0xf8, 0, 0, 0, 60, 0x0a, 0x0b, 0x0c, 0x0d}, {0xf0, 0, 0, 0, 60, 0x0a, 0x0b, 0x0c, 0x0d}};
@@ -55,10 +61,10 @@ int main(void) {
     for (int is_event = 0; is_event < 2; is_event++)
         if (mesh_stream(KEY, !is_event, 0x0a0b0c0d, 60, zeros, LONGEST, streams[is_event], LONGEST)) return 1;
     for (size_t a = 0; a < sizeof ALPHABETS / sizeof *ALPHABETS; a++) {
-        for (size_t n = 0; n <= LONGEST; n++) {
+        for (size_t n = 0; n <= ALPHABETS[a].longest; n++) {
             uint8_t digits[LONGEST] = {0}, payload[LONGEST];
             size_t i;
-            memset(payload, ALPHABETS[a][0], sizeof payload);
+            memset(payload, ALPHABETS[a].letter[0], sizeof payload);
             do {
                 for (int is_event = 0; is_event < 2; is_event++) {
                     bool is_clean = false;
@@ -71,8 +77,8 @@ int main(void) {
                     clean[is_event] += is_clean;
                 }
                 payloads++;
-                for (i = 0; i < n && digits[i] == 2; i++) digits[i] = 0, payload[i] = ALPHABETS[a][0];
-                if (i < n) payload[i] = ALPHABETS[a][++digits[i]];
+                for (i = 0; i < n && digits[i] == ALPHABETS[a].letters - 1; i++) digits[i] = 0, payload[i] = ALPHABETS[a].letter[0];
+                if (i < n) payload[i] = ALPHABETS[a].letter[++digits[i]];
             } while (i < n);
         }
     }

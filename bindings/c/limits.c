@@ -978,7 +978,7 @@ static void items(void) {
     static const uint8_t p11[] = {1, 2, 0xaa, 0xbb, 0, 5, 1, 2, 3, 4, 5, 2, 0, 3, 9, 0xcc};
     CHECK(do_count(true, p11, sizeof p11) == 0 && counted(2, 1, 6, 7, 3, 0));
     CHECK(do_count(false, p11, sizeof p11) == 0 && counted(3, 0, 13, 0, 3, 0));
-    /* Each byte of the longest path, as every byte: only the two bits that an snr ignores keep an event from being clean. */
+    /* Each byte of the longest path, as every byte: only the two bits that are ignored in an snr byte keep an event from being clean. */
     uint8_t path[254] = {0, 252};
     for (size_t i = 2; i < sizeof path; i++) {
         for (unsigned b = 0; b < 256; b++) {

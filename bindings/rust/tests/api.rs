@@ -272,7 +272,7 @@ fn given_back() {
 /// Clean is told exactly where the opened packet is written as the payload stood.
 #[test]
 fn clean_as_written() {
-    // One path entry, or two, with none of the two bits that an snr ignores, or one of them; one of tag 1; one skipped; one byte cut.
+    // One path entry, or two, with none of an snr byte's two ignored bits, or one of them; one of tag 1; one skipped; one byte cut.
     for (payload, in_event, in_command) in [
         ("", true, true),
         ("0006 01020304 5007", true, true),

@@ -2,16 +2,16 @@
 -- nothing.
 use Prim.Native.Nat.{ℕ, zero, suc, _+_, _-_, _≤_, _<_}
 use native.Mathlib.Omega.{arith}
-use mathlib.Core.Bool.{Bool, true, false, and-eq-true-iff, false≢true}
-use mathlib.Core.Path.{_≡_, refl, sym, ap, ap₂, _∙_}
+use mathlib.Core.Bool.{Bool, true, false}
+use mathlib.Core.Path.{_≡_, refl, ap, ap₂, _∙_}
 use mathlib.Core.List.{List, [], _∷_}
-use lib.Dec.{ltb, leb, eqb}
+use lib.Dec.{ltb, leb}
 use lib.ListN.{length, getD, take, drop, length-drop, drop-of-length-le}
 use lib.Seq.{drop-cons, drop-drop, length-take-le}
-use borrow.Author.Tests.{lt-ltb, le-ltb, le-leb, lt-leb, ltb-true, ltb-false, leb-true, leb-false, ne-eqb}
+use borrow.Author.Tests.{lt-ltb, le-ltb, le-leb, lt-leb, ltb-true, ltb-false, leb-true, leb-false}
 use Rattle.base.specs.Pick.{pick}
 use Rattle.wire.specs.Part.{partOf}
-use Rattle.items.specs.Items.{badBeat, Piece, kept, skipped, cut, pieces, itemAt, skippedItems, keptBytes, skippedBytes, cutBytes, keptClean, isClean, openingOf, itemOf, cutAt, Turn, nextOf, walkedTo}
+use Rattle.items.specs.Items.{badBeat, Piece, kept, skipped, cut, pieces, itemAt, keptBytes, skippedBytes, cutBytes, itemOf, cutAt, Turn, nextOf, walkedTo}
 use Rattle.items.specs.declared.item.Item.{Item}
 use Rattle.items.specs.declared.item.ItemRead.{ItemRead}
 use Rattle.items.specs.declared.item.ItemRead.the-variants.{Kept, Skipped, Cut, End, Refused}
@@ -181,35 +181,3 @@ bytes-sum ev s = total-from ev 0 s ∙ omega arith
 pub no-pieces : (ev : Bool) → pieces ev 0 [] ≡ []
 unfolding pieces
 no-pieces ev = refl
-
--- what is clean skipped and cut nothing
-clean-lost : (ev : Bool) (ps : List Piece) → isClean ev ps ≡ true → (skippedItems ps ≡ 0) × (cutBytes ps ≡ 0)
-clean-lost ev [] e = (refl, refl)
-clean-lost ev (kept t v ∷ ps) e = clean-lost ev ps (and-eq-true-iff (keptClean ev t v) (isClean ev ps) .0 e .1)
-clean-lost ev (skipped v ∷ ps) e = absurd (false≢true e)
-clean-lost ev (cut v ∷ ps) e = absurd (false≢true e)
-
-pub clean-whole : (ev : Bool) (s : List ℕ) → openingOf ev s .clean ≡ true → (openingOf ev s .skipped ≡ 0) × (openingOf ev s .«cut_bytes» ≡ 0)
-unfolding openingOf
-clean-whole ev s e = clean-lost ev (pieces ev 0 s) e
-
--- a command's is clean where nothing is cut
-command-step : (t n : ℕ) (s : List ℕ) → isClean false (pieces false n s) ≡ eqb (cutBytes (pieces false n s)) 0 → (b : Bool) → leb n (length s) ≡ b
-    → isClean false (pieces false 0 (t ∷ n ∷ s)) ≡ eqb (cutBytes (pieces false 0 (t ∷ n ∷ s))) 0
-unfolding badBeat
-command-step t n s ih true p = rw (step false t n s (leb-true _ _ p)) (rw (skip false n s) at ih)
-command-step t n s ih false p =
-    let z : suc (suc (length s)) + 0 ≡ 0 → ⊥ = λ q. omega arith in
-    rw (stop false t n s (leb-false _ _ p)) (sym (ne-eqb (suc (suc (length s)) + 0) 0 z))
-
-command-from : (k : ℕ) (s : List ℕ) → isClean false (pieces false k s) ≡ eqb (cutBytes (pieces false k s)) 0
-unfolding pieces
-command-from (suc k) [] = refl
-command-from (suc k) (x ∷ s) = command-from k s
-command-from zero [] = refl
-command-from zero (t ∷ []) = refl
-command-from zero (t ∷ n ∷ s) = command-step t n s (command-from n s) _ refl
-
-pub command-clean : (s : List ℕ) → openingOf false s .clean ≡ eqb (openingOf false s .«cut_bytes») 0
-unfolding openingOf
-command-clean s = command-from 0 s

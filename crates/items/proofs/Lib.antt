@@ -1,3 +1,4 @@
 pub mod Laws
+pub mod Clean
 pub mod Loop
 pub mod Fixed

@@ -41,6 +41,9 @@ none-yet ev s =
     }
 
 module _ (ev : Bool) (s : List ℕ) (at k sk kb sb : ℕ) (cl : Bool) (f : Sofar ev s at k sk kb sb cl) where
+  lost : isClean ev (pieces ev 0 (drop at s)) ≡ false → false ≡ isClean ev (pieces ev 0 s)
+  lost e = sym (and-false cl) ∙ ap (λ (x : Bool). cl && x) (sym e) ∙ f .clean
+
   pub one-kept : (i : Item) (nx : ℕ) → itemAt ev s at ≡ Kept i nx → (v : List ℕ) → v ≡ partOf s (i .value .start) (i .value .len)
       → (b : Bool) → b ≡ keptClean ev (i .tag) v → Sofar ev s nx (k + 1) sk (kb + (nx - at)) sb (cl && b)
   one-kept i nx e v ve b be =
@@ -85,7 +88,7 @@ module _ (ev : Bool) (s : List ℕ) (at k sk kb sb : ℕ) (cl : Bool) (f : Sofar
         kept-bytes = omega arith;
         skipped-bytes = omega arith;
         cut-bytes = omega arith;
-        clean = sym (and-false cl) ∙ ap (λ (x : Bool). cl && x) (sym (ap (isClean ev) (u .3))) ∙ f .clean;
+        clean = lost (ap (isClean ev) (u .3));
       }
 
   pub at-cut : (r : Run) (nx : ℕ) → itemAt ev s at ≡ Cut r nx
@@ -105,7 +108,7 @@ module _ (ev : Bool) (s : List ℕ) (at k sk kb sb : ℕ) (cl : Bool) (f : Sofar
       let t : kb ≡ keptBytes (pieces ev 0 s) = omega arith in
       let v : sb ≡ skippedBytes (pieces ev 0 s) = omega arith in
       let w : r .len ≡ cutBytes (pieces ev 0 s) = omega arith in
-      let z : false ≡ isClean ev (pieces ev 0 s) = sym (and-false cl) ∙ ap (λ (x : Bool). cl && x) (sym (ap (isClean ev) (u .3))) ∙ f .clean in
+      let z : false ≡ isClean ev (pieces ev 0 s) = lost (ap (isClean ev) (u .3)) in
       cc
 
   pub at-end : (nx : ℕ) → itemAt ev s at ≡ End nx

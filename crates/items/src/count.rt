@@ -1,4 +1,5 @@
-// What an opening reports: how many items a payload keeps and skips, and the bytes of those kept, of those skipped and of the cut tail.
+// What an opening reports: how many items a payload keeps and skips, the bytes of those kept, of those skipped and of the cut tail, and whether it
+// is clean.
 ghost use mathlib.Core.Path.{_≡_};
 ghost use mathlib.Core.Bool.{Bool};
 ghost use Rattle.items.specs.Items.{keptClean, openingOf, nothing, countsOf};

@@ -37,6 +37,7 @@ pub struct Event;
 
 pub struct Command;
 
+// A heartbeat: tag 0 of an event.
 pub fn is_beat(is_event: bool, tag: u8) -> bool
     ensures { λ r. ⌜ r ≡ isBeat «is_event» tag ⌝ }
 {

@@ -28,7 +28,7 @@ use Rattle.fields.specs.Header.{typeRead, codeOf, headerOf, headerByte, typeSay
 use Rattle.fields.specs.Freq.{scaled, hertzOf, hertzIn, freqRead, halvedOf, stepsOf, exactSteps, freqWire, freqSays, stepsSays}
 use Rattle.fields.specs.declared.freq.FreqRead.the-variants as freq
 use Rattle.fields.specs.Limits.{hertzMost}
-use Rattle.fields.specs.Signal.{rssiOf, rssiByte, snrOf, snrByte, signalSays}
+use Rattle.fields.specs.Signal.{rssiOf, rssiByte, snrOf, ignoredOf, snrByte, signalSays}
 use Rattle.fields.specs.Meta.{upOf, upWire, downOf, downWire}
 use Rattle.fields.specs.Path.{pathOf, pathWire}
 use Rattle.fields.specs.declared.header.MHDR.{MHDR}
@@ -49,7 +49,8 @@ use Rattle.items.specs.Items.{isBeat, badBeat, openingOf, kindOf, pathKind, ite
 use Rattle.items.specs.declared.count.Opening.{Opening}
 use Rattle.items.specs.declared.item.Item.{Item}
 use Rattle.items.specs.declared.item.ItemKind.the-variants.{Encrypted}
-use Rattle.items.proofs.Laws.{turn, walk-ends, kept-whole, clean-whole, command-clean}
+use Rattle.items.proofs.Laws.{turn, walk-ends, kept-whole}
+use Rattle.items.proofs.Clean.{clean-whole, command-clean}
 use Rattle.kept_items.specs.Kept.{itemBytes, openBytes}
 use Rattle.kept_items.proofs.Clean.{clean-as-written}
 use Rattle.composed_items.specs.Composed.{Lists, lists, tagOf, composedWire, lentBack}
@@ -331,7 +332,27 @@ derived-keys root = (refl, refl)
 
 -- ---- items and heartbeats
 
--- 7.8: a payload is clean exactly if what is written of its kept items is the payload, of an event and of a command
+-- 7.8: a payload is clean exactly if nothing was skipped or cut and both ignored bits of each path entry are 0, which is: of each heartbeat that the
+-- reader keeps, going from item to item, the bits of each entry's last byte
+abbrev pub EntriesClear : Bool → List ℕ → Type 0
+EntriesClear ev s =
+    (n : ℕ) (i : Item) (next : ℕ) → itemSays (itemAt ev s (walkedTo ev s n 0)) ≡ value (keptItem i next) → isBeat ev (i .tag) ≡ true
+    → (k : ℕ) → k * 6 + 6 ≤ i .value .len → ignoredOf (getD s (i .value .start + (k * 6 + 5)) 0) ≡ 0
+
+pub clean-exactly-if-whole-and-clear : (ev : Bool) (s : List ℕ)
+    → (openingOf ev s .clean ≡ true → (openingOf ev s .skipped ≡ 0) × (openingOf ev s .«cut_bytes» ≡ 0) × EntriesClear ev s)
+    × ((openingOf ev s .skipped ≡ 0) × (openingOf ev s .«cut_bytes» ≡ 0) × EntriesClear ev s → openingOf ev s .clean ≡ true)
+clean-exactly-if-whole-and-clear ev s =
+    let c = clean-whole ev s in (
+      λ e. let a = c .0 e in (a .0, a .1, λ n i next q. a .2 n i next (item-said (itemAt ev s (walkedTo ev s n 0)) i next q)),
+      λ a. c .1 (a .0, a .1, λ n i next q. a .2 n i next (ap itemSays q)),
+    )
+
+-- in a command, where nothing is skipped and nothing is a heartbeat, exactly if nothing was cut
+pub command-clean-exactly-if-nothing-cut : (s : List ℕ) → openingOf false s .clean ≡ eqb (openingOf false s .«cut_bytes») 0
+command-clean-exactly-if-nothing-cut = command-clean
+
+-- and exactly if what is written of its kept items is the payload, of an event and of a command
 pub clean-exactly-if-written-again : (ev : Bool) (s : List ℕ) → Bytes s → (openingOf ev s .clean ≡ true → openBytes ev s ≡ s) × (openBytes ev s ≡ s → openingOf ev s .clean ≡ true)
 clean-exactly-if-written-again = clean-as-written
 
@@ -348,13 +369,6 @@ pub decoded-clean-exactly-if-written-again : (ev : Bool) (r : Run) (f w : List �
     → Bytes (runBytes f r) → openedSays (decodeOf ev (Sealed r) f w) ≡ value (told c o)
     → (o .clean ≡ true → contentWire ev (framed f x) c ≡ bytes (runBytes f r)) × (contentWire ev (framed f x) c ≡ bytes (runBytes f r) → o .clean ≡ true)
 decoded-clean-exactly-if-written-again ev r f w x c o b d = decoded-clean ev r f w x c o b (opened-said (decodeOf ev (Sealed r) f w) c o d)
-
--- what is clean skipped and cut nothing; in a command, where nothing is skipped, that is all
-pub clean-skips-and-cuts-nothing : (ev : Bool) (s : List ℕ) → openingOf ev s .clean ≡ true → (openingOf ev s .skipped ≡ 0) × (openingOf ev s .«cut_bytes» ≡ 0)
-clean-skips-and-cuts-nothing = clean-whole
-
-pub command-clean-exactly-if-nothing-cut : (s : List ℕ) → openingOf false s .clean ≡ eqb (openingOf false s .«cut_bytes») 0
-command-clean-exactly-if-nothing-cut = command-clean
 
 -- 7.9: what the item reader answers at a place, as `Turn` says, is the first of the payload's pieces from there, and where the next begins
 pub one-item-at-a-time : (ev : Bool) (s : List ℕ) (at : ℕ) → Turn ev s at (itemAt ev s at)

@@ -1,13 +1,13 @@
 -- Laws of a path entry. Assumes nothing.
-use Prim.Native.Nat.{ℕ, suc, _+_, _*_, _/_, _%_, _≤_, _<_}
+use Prim.Native.Nat.{ℕ, zero, suc, _+_, _*_, _/_, _%_, _≤_, _<_}
 use native.Mathlib.Omega.{arith}
-use mathlib.Core.Bool.{Bool, true, false, _&&_, and-eq-true-iff}
-use mathlib.Core.Path.{_≡_, refl, ap, ap₂, _∙_}
+use mathlib.Core.Bool.{Bool, true, false, _&&_, and-eq-true-iff, false≢true}
+use mathlib.Core.Path.{_≡_, refl, sym, ap, ap₂, _∙_}
 use mathlib.Core.List.{List, [], _∷_}
-use lib.Dec.{eqb}
+use lib.Dec.{ltb, eqb}
 use lib.ListN.{length, getD, drop, length-append, length-drop}
 use lib.Seq.{drop-cons}
-use borrow.Author.Tests.{eq-eqb, ne-eqb, eqb-true}
+use borrow.Author.Tests.{ltb-true, ltb-false, eq-eqb, ne-eqb, eqb-true}
 use Rattle.base.specs.Pick.{pick}
 use Rattle.base.specs.Lists.{Bytes, imap, joined}
 use Rattle.base.proofs.Lists.{_◂_}
@@ -102,6 +102,44 @@ few-clear i (b ∷ v) h =
 pub clear-end : (v : List ℕ) (i : ℕ) → i % 6 ≡ 0 → length v < i + 6 → clearFrom i (drop i v) ≡ true
 clear-end v i h l = let n = length-drop i v in few-clear i (drop i v) (omega arith)
 
+whole : (k : ℕ) → k * 6 % 6 ≡ 0
+whole k = omega arith
+
+six-more : (k : ℕ) → k * 6 + 6 ≡ suc k * 6
+six-more k = omega arith
+
+-- that is so exactly if those of each entry are
+module _ (v : List ℕ) where
+  abbrev Clear : Type 0
+  Clear = (k : ℕ) → k * 6 + 6 ≤ length v → ignoredOf (getD v (k * 6 + 5) 0) ≡ 0
+
+  reached : ignoredClear v ≡ true → (k : ℕ) → k * 6 ≤ length v → clearFrom (k * 6) (drop (k * 6) v) ≡ true
+  reached e zero l = e
+  reached e (suc k) l = by (eqb (ignoredOf (getD v (k * 6 + 5) 0)) 0) refl (reached e k (omega arith))
+    where
+      by : (t : Bool) → eqb (ignoredOf (getD v (k * 6 + 5) 0)) 0 ≡ t → clearFrom (k * 6) (drop (k * 6) v) ≡ true → clearFrom (suc k * 6) (drop (suc k * 6) v) ≡ true
+      by true p q = rw (← six-more k) (sym (entry-by v (k * 6) (whole k) (omega arith) true p) ∙ q)
+      by false p q = absurd (false≢true (sym (entry-by v (k * 6) (whole k) (omega arith) false p) ∙ q))
+
+  each : ignoredClear v ≡ true → Clear
+  each e k l = by (eqb (ignoredOf (getD v (k * 6 + 5) 0)) 0) refl (reached e k (omega arith))
+    where
+      by : (t : Bool) → eqb (ignoredOf (getD v (k * 6 + 5) 0)) 0 ≡ t → clearFrom (k * 6) (drop (k * 6) v) ≡ true → ignoredOf (getD v (k * 6 + 5) 0) ≡ 0
+      by true p q = eqb-true _ 0 p
+      by false p q = absurd (false≢true (sym (entry-by v (k * 6) (whole k) l false p) ∙ q))
+
+  from-entry : Clear → (k : ℕ) → clearFrom (suc k * 6) (drop (suc k * 6) v) ≡ true → (t : Bool) → ltb (length v) (k * 6 + 6) ≡ t → clearFrom (k * 6) (drop (k * 6) v) ≡ true
+  from-entry c k rest true p = clear-end v (k * 6) (whole k) (ltb-true _ _ p)
+  from-entry c k rest false p =
+      entry-clear v (k * 6) (whole k) (ltb-false _ _ p) (c k (ltb-false _ _ p)) ∙ rw (six-more k) rest
+
+  all : Clear → (n k : ℕ) → length v < (k + n) * 6 + 6 → clearFrom (k * 6) (drop (k * 6) v) ≡ true
+  all c zero k l = clear-end v (k * 6) (whole k) (omega arith)
+  all c (suc n) k l = from-entry c k (all c n (suc k) (omega arith)) _ refl
+
+  pub clear-entries : (ignoredClear v ≡ true → Clear) × (Clear → ignoredClear v ≡ true)
+  clear-entries = (each, λ c. all c (length v) 0 (omega arith))
+
 -- bytes are written as they are exactly if their ignored bits are 0
 byte-clear : (i b : ℕ) → (clearByte i b ≡ true → entryByte i b ≡ b) × (entryByte i b ≡ b → clearByte i b ≡ true)
 byte-clear i b = by (eqb (i % 6) 5)
@@ -121,5 +159,5 @@ clear-from i (b ∷ v) =
       λ e. ap₂ _&&_ (one .1 (cc)) (more .1 (cc)),
     )
 
-pub clear-as-written : (v : List ℕ) → (ignoredClear v ≡ true → imap entryByte 0 v ≡ v) × (imap entryByte 0 v ≡ v → ignoredClear v ≡ true)
-clear-as-written v = clear-from 0 v
+pub entries-as-written : (v : List ℕ) → (ignoredClear v ≡ true → imap entryByte 0 v ≡ v) × (imap entryByte 0 v ≡ v → ignoredClear v ≡ true)
+entries-as-written v = clear-from 0 v
