@@ -67,11 +67,11 @@ module _ (ev : Bool) (s : List ℕ) where
 
 module _ (ev : Bool) (t : ℕ) where
   code-by : (e z : Bool) → ev ≡ e → eqb t 0 ≡ z
-      → (pick e (eqb (kindCode (pick e (pick z Heartbeat Proprietary) Proprietary)) 3) false ≡ false)
-      × (pick (eqb (kindCode (pick e (pick z Heartbeat Proprietary) Proprietary)) 2) t 0 ≡ t)
-      × (_≡_ {A = ℕ} (pick (eqb (kindCode (pick e (pick z Heartbeat Proprietary) Proprietary)) 2) 0
-      (pick e (pick (eqb (kindCode (pick e (pick z Heartbeat Proprietary) Proprietary)) 1) 0
-      (pick (eqb (kindCode (pick e (pick z Heartbeat Proprietary) Proprietary)) 3) 0 29)) 29)) 0)
+      → (pick e (eqb (kindCode (pick (pick e z false) Heartbeat Proprietary)) 3) false ≡ false)
+      × (pick (eqb (kindCode (pick (pick e z false) Heartbeat Proprietary)) 2) t 0 ≡ t)
+      × (_≡_ {A = ℕ} (pick (eqb (kindCode (pick (pick e z false) Heartbeat Proprietary)) 2) 0
+      (pick e (pick (eqb (kindCode (pick (pick e z false) Heartbeat Proprietary)) 1) 0
+      (pick (eqb (kindCode (pick (pick e z false) Heartbeat Proprietary)) 3) 0 29)) 29)) 0)
   code-by true true p q = (refl, sym (eqb-true t 0 q), refl)
   code-by true false p q = (refl, refl, refl)
   code-by false z p q = (refl, refl, refl)

@@ -129,14 +129,14 @@ by-kind ev i s k w x o e h = rw e h
 
 module _ (ev : Bool) (t : ℕ) (r : Run) (s : List ℕ) where
   -- its kind is one of a value in bytes, and its tag is written as it was read
-  by-kinds : (e z : Bool) → ev ≡ e → eqb t 0 ≡ z → runRefusal (length s) r ≡ 0 → oneRefusal e (kindCode (pick e (pick z Heartbeat Proprietary) Proprietary)) t (length (runBytes s r)) ≡ 0
-      → encodedBy e (pick e (pick z Heartbeat Proprietary) Proprietary) t r s ≡ bytes (itemBytes (isBeat e t) t (runBytes s r))
+  by-kinds : (e z : Bool) → ev ≡ e → eqb t 0 ≡ z → runRefusal (length s) r ≡ 0 → oneRefusal e (kindCode (pick (pick e z false) Heartbeat Proprietary)) t (length (runBytes s r)) ≡ 0
+      → encodedBy e (pick (pick e z false) Heartbeat Proprietary) t r s ≡ bytes (itemBytes (isBeat e t) t (runBytes s r))
   unfolding encodedIn oneWire strangeKind tagOf
   by-kinds true true p q h k = let z : t ≡ 0 = eqb-true t 0 q in rw (h, k, z) refl
   by-kinds true false p q h k = rw (h, k) refl
   by-kinds false z p q h k = rw (h, k) refl
 
-  good-kind : (e z : Bool) → ev ≡ e → eqb t 0 ≡ z → (n : ℕ) → n ≤ 255 → badBeat e t n ≡ false → oneRefusal e (kindCode (pick e (pick z Heartbeat Proprietary) Proprietary)) t n ≡ 0
+  good-kind : (e z : Bool) → ev ≡ e → eqb t 0 ≡ z → (n : ℕ) → n ≤ 255 → badBeat e t n ≡ false → oneRefusal e (kindCode (pick (pick e z false) Heartbeat Proprietary)) t n ≡ 0
   unfolding oneRefusal strangeKind tagOf
   good-kind true true p q n l b = let z : 0 ≡ t = sym (eqb-true t 0 q) in rw (le-ltb 255 n l, z, b) refl
   good-kind true false p q n l b = rw (le-ltb 255 n l, b) refl

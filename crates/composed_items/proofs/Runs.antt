@@ -56,19 +56,11 @@ module _ (s : List ℕ) (place len : ℕ) where
 module _ (ev : Bool) (t n : ℕ) where
   pub no-beat : isBeat ev t ≡ false → _≡_ {A = ℕ} 0 (pick (badBeat ev t n) heartbeatLength 0)
   unfolding badBeat
-  no-beat e = go ev (eqb t 0) e
-    where
-      go : (a b : Bool) → pick a b false ≡ false → _≡_ {A = ℕ} 0 (pick (pick a (pick b (not (eqb (n % 6) 0)) false) false) heartbeatLength 0)
-      go false b q = refl
-      go true b q = rw q
+  no-beat e = ap (λ (b : Bool). pick (pick b (not (eqb (n % 6) 0)) false) heartbeatLength 0) (sym e)
 
   beat-is : isBeat ev t ≡ true → badBeat ev t n ≡ not (eqb (n % 6) 0)
   unfolding badBeat
-  beat-is e = go ev (eqb t 0) e
-    where
-      go : (a b : Bool) → pick a b false ≡ true → pick a (pick b (not (eqb (n % 6) 0)) false) false ≡ not (eqb (n % 6) 0)
-      go false b q = absurd (let z : _≡_ {A = ℕ} 0 1 = cc in omega arith)
-      go true b q = rw q
+  beat-is e = ap (λ (b : Bool). pick b (not (eqb (n % 6) 0)) false) e
 
   pub whole-beat : isBeat ev t ≡ true → n % 6 ≡ 0 → _≡_ {A = ℕ} 0 (pick (badBeat ev t n) heartbeatLength 0)
   whole-beat e h = rw (beat-is e, eq-eqb (n % 6) 0 h)

@@ -26,7 +26,7 @@ isBeat ev t = pick ev (eqb t 0) false
 
 -- a heartbeat that is no whole number of entries
 unfoldable pub badBeat : Bool → ℕ → ℕ → Bool
-badBeat ev t n = pick ev (pick (eqb t 0) (not (eqb (n % 6) 0)) false) false
+badBeat ev t n = pick (isBeat ev t) (not (eqb (n % 6) 0)) false
 
 -- ---- a payload as its pieces
 
@@ -116,7 +116,7 @@ countsSay (NoCount n) = number n
 -- ---- one item at a place
 
 unfoldable pub kindOf : Bool → ℕ → ItemKind
-kindOf ev t = pick ev (pick (eqb t 0) Heartbeat Proprietary) Proprietary
+kindOf ev t = pick (isBeat ev t) Heartbeat Proprietary
 
 -- a kind as a number, of items that are read and of those that a caller composes; a path in lists is a heartbeat that was not read
 abbrev pub heartbeatKind : ℕ

@@ -50,11 +50,8 @@ pub fn is_beat(is_event: bool, tag: u8) -> bool
 fn kind_of(is_event: bool, tag: u8) -> ItemKind
     ensures { λ r. ⌜ r ≡ kindOf «is_event» tag ⌝ }
 {
-    if is_event {
-        if tag == 0 {
-            return ItemKind::Heartbeat;
-        }
-        return ItemKind::Proprietary;
+    if is_beat(is_event, tag) {
+        return ItemKind::Heartbeat;
     }
     ItemKind::Proprietary
 }
@@ -62,11 +59,8 @@ fn kind_of(is_event: bool, tag: u8) -> ItemKind
 fn bad_beat(is_event: bool, tag: u8, n: usize) -> bool
     ensures { λ r. ⌜ r ≡ badBeat «is_event» tag n ⌝ }
 {
-    if is_event {
-        if tag == 0 {
-            return n % Limit::ENTRY != 0;
-        }
-        return false;
+    if is_beat(is_event, tag) {
+        return n % Limit::ENTRY != 0;
     }
     false
 }
