@@ -1,7 +1,6 @@
 /* Every payload over a few small alphabets, of up to 14 bytes or 11, as an event's and as a command's: what the library calls clean, held to what it
-   writes.
-   Each is sealed, opened and written again: clean has to be said exactly where the payload's own bytes are written. It has to be said the same by
-   mesh_packet_decode, by mesh_items_count and by `kept_as_is` below. Prints the counts; the status is 1 where anything is otherwise. */
+   writes. Each is sealed, opened and written again: clean has to be said exactly where the payload's own bytes are written. It has to be said the same
+   by mesh_packet_decode, by mesh_items_count and by `kept_as_is` below. Prints the counts; the status is 1 where anything is otherwise. */
 #include "mesh.h"
 
 #include <stdio.h>
