@@ -104,7 +104,8 @@ static uint8_t validated(const uint8_t *frame, size_t n, bool *valid)
     return refused ? refused : mesh_packet_validate(&packet, key, &lent, valid);
 }
 
-/* Frames of every type: what the hop edit leaves is the frame with the count, an uplink's two bits and OpenSSL's MIC over them set. */
+/* Frames of every type: what the hop edit leaves is the frame with the count set, an uplink's odd bits cleared, and OpenSSL's MIC over
+   that. */
 static void agree_frames(void)
 {
     static const size_t least[4] = {14, 15, 13, 13};
@@ -174,7 +175,7 @@ static mesh_packet packet_of(const struct hand *h)
     return (mesh_packet){.kind = h->kind, .payload_type = h->payload_type, .hop_count = h->hop_count, .has_mic = h->has_mic, .mic = h->mic,
                          .relay_id = h->relay_id, .uplink_id = h->uplink_id, .dr = h->dr, .channel = h->channel, .frequency = h->frequency,
                          .tx_power = h->tx_power, .delay = h->delay, .timestamp = h->timestamp, .content = h->content, .start = h->start, .len = h->len,
-                         .rssi = h->rssi, .snr = h->snr};
+                         .odd = h->odd, .rssi = h->rssi, .snr = h->snr};
 }
 
 static bool same_packet(const mesh_packet *p, const struct hand *h)
@@ -204,7 +205,7 @@ static void agree_limit(void)
     for (int round = 0; round < 100000; round++) {
         struct hand h = {.hop_count = 1 + (rand() & 7), .has_mic = true, .mic = (uint32_t)rand() * 3u, .relay_id = (uint32_t)rand() * 5u,
                          .uplink_id = rand() & 4095, .dr = rand() & 15, .rssi = -(rand() & 255), .snr = (rand() & 63) - 32, .channel = rand(),
-                         .start = rand() % 30, .len = rand() % 30};
+                         .odd = rand(), .start = rand() % 30, .len = rand() % 30};
         size_t n = 60, room = 14 + h.len + rand() % 3;
         for (int faults = rand() % 3; faults > 0; faults--)
             switch (rand() % 12) {

@@ -23,7 +23,7 @@ uint8_t hand_read(struct hand *p, const uint8_t *frame, size_t n)
         if (n < 14) return 4;
         *p = (struct hand){.hop_count = hops, .has_mic = true, .mic = four(mic), .relay_id = four(frame + 6),
                            .uplink_id = frame[1] << 4 | frame[2] >> 4, .dr = frame[2] & 15, .rssi = -frame[3],
-                           .snr = ((frame[4] & 63) ^ 32) - 32, .channel = frame[5], .start = 10, .len = n - 14};
+                           .snr = ((frame[4] & 63) ^ 32) - 32, .channel = frame[5], .odd = frame[4] >> 6, .start = 10, .len = n - 14};
         return 0;
     case 1: {
         if (n < 15) return 4;

@@ -12,7 +12,7 @@ struct hand {
     uint8_t dr;
     int16_t rssi;
     int8_t snr;
-    uint8_t channel;
+    uint8_t channel, odd;
     uint32_t frequency;
     uint8_t tx_power, delay;
     uint32_t timestamp;

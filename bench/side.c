@@ -22,7 +22,7 @@ static struct {
 static uint32_t ready[MESH_CIPHER_WORDS + 256];
 static uint64_t refusals;
 
-/* Events whose payload is heartbeats and one item behind them, by size. No ignored bit is set: every entry is asked. */
+/* Events whose payload is heartbeats and one item behind them, by size. No odd bit is set: every entry is asked. */
 static const uint8_t BEATS_KEY[16] = {1};
 static size_t beats_of(size_t n) { return n == 64 ? 0 : n == 255 ? 1 : 2; }
 

@@ -8,7 +8,7 @@
 
 enum { LONGEST = 14, HEAD = 9, MIC = 4, FRAME = HEAD + LONGEST + MIC };
 
-/* Tag 0, which is a heartbeat's in an event; the length of one path entry, or of two; one ignored bit, or the other; a length that is no path's. In
+/* Tag 0, which is a heartbeat's in an event; the length of one path entry, or of two; one odd bit, or the other; a length that is no path's. In
    11 bytes there is room for a heartbeat of one entry and one that is skipped. */
 static const struct {
     size_t longest, letters;
@@ -20,7 +20,7 @@ static const uint32_t PAYLOADS = 47057075, CLEAN[] = {6977652, 5231486};
 static const uint8_t KEY[16] = {1, 2, 3, 4, 5, 6, 7, 8, 9, 10, 11, 12, 13, 14, 15, 16};
 static const uint8_t HEADS[2][HEAD] = {{0xf8, 0, 0, 0, 60, 0x0a, 0x0b, 0x0c, 0x0d}, {0xf0, 0, 0, 0, 60, 0x0a, 0x0b, 0x0c, 0x0d}};
 
-/* The rule, read by hand: every byte belongs to an item, no heartbeat is uneven, and none has an ignored bit. */
+/* The rule, read by hand: every byte belongs to an item, no heartbeat is uneven, and none has an odd bit. */
 static bool kept_as_is(bool is_event, const uint8_t *s, size_t n) {
     size_t at = 0;
     while (at < n) {

@@ -393,6 +393,8 @@ static void reading(void) {
 static void fault(uint8_t number, mesh_packet p, const mesh_lent *l) {
     CHECK(do_write(false, &p, l, 0) == number && do_write(true, &p, l, 0) == number);
     CHECK(do_sign(&p, l) == number && do_validate(&p, l) == number);
+    p.odd = UINT64_MAX;
+    CHECK(do_write(false, &p, l, 0) == number && do_write(true, &p, l, 0) == number && do_sign(&p, l) == number && do_validate(&p, l) == number);
     p.has_mic = false;
     CHECK(do_write(false, &p, l, 0) == (number == 5 ? 27 : number) && do_sign(&p, l) == number && do_validate(&p, l) == 27);
     p.has_mic = true;
@@ -605,30 +607,37 @@ static void none(mesh_packet p, const mesh_lent *l) {
 /* Numbers that are wider than 32 bits. The first ones' low bits are good ones. */
 static const uint64_t WIDE[] = {1ull << 32, (1ull << 32) + 1, 1ull << 63, UINT64_MAX};
 
+/* Numbers of odd bits: those that are read, 0 aside, and others, whose low bits are such. */
+static const uint64_t ODD[] = {1, 2, 3, 4, 5, 64, 255, 256, 257, 259, 65537, 1ull << 32, (1ull << 32) + 1, (1ull << 32) + 3, 1ull << 63, UINT64_MAX};
+
 /* That every call answers the same of two packets, and what it leaves is the same. */
 static void alike(const mesh_packet *p, const mesh_packet *q, const mesh_lent *l) {
     const mesh_packet *const both[2] = {p, q};
-    uint8_t r[2][8];
-    uint64_t made[2] = {0, 0}, lengths[2] = {0, 0};
-    uint8_t bytes_of[2][99];
+    uint8_t r[2][8], bytes_of[2][3][99];
+    uint64_t made[2][5];
     memset(bytes_of, 0, sizeof bytes_of);
+    memset(made, 0, sizeof made);
     for (size_t i = 0; i < 2; i++) {
-        r[i][0] = do_write(false, both[i], l, 99);
-        if (r[i][0] == 0) {
-            lengths[i] = written_length;
-            memcpy(bytes_of[i], written, written_length);
+        for (size_t body = 0; body < 2; body++) {
+            r[i][body] = do_write(body, both[i], l, 99);
+            if (r[i][body]) continue;
+            made[i][body] = written_length;
+            memcpy(bytes_of[i][body], written, written_length);
         }
-        r[i][1] = do_write(true, both[i], l, 99);
         r[i][2] = do_sign(both[i], l);
-        if (r[i][2] == 0) made[i] = mic_made;
+        if (r[i][2] == 0) made[i][2] = mic_made;
         r[i][3] = do_validate(both[i], l);
+        if (r[i][3] == 0) made[i][3] = was_valid;
         r[i][4] = do_seal(both[i], l, 99);
+        if (r[i][4] == 0) made[i][4] = place_after[2];
+        if (r[i][4] == 0 && place_after[0] == MESH_SEALED) memcpy(bytes_of[i][2], written, place_after[2]);
         r[i][5] = do_decrypt(both[i], l->frame, l->frame_len, NULL, 99);
         r[i][6] = do_decode(both[i], l->frame, l->frame_len, NULL, 0);
         mesh_record_of known;
         r[i][7] = mesh_packet_record(both[i], &known);
     }
-    CHECK(memcmp(r[0], r[1], sizeof r[0]) == 0 && made[0] == made[1] && lengths[0] == lengths[1] && memcmp(bytes_of[0], bytes_of[1], 99) == 0);
+    CHECK(memcmp(r[0], r[1], sizeof r[0]) == 0 && memcmp(made[0], made[1], sizeof made[0]) == 0);
+    CHECK(memcmp(bytes_of[0], bytes_of[1], sizeof bytes_of[0]) == 0);
 }
 
 /* A number that is wider than its field: refused with 29 before all else where nothing else refuses it, and otherwise as the field's largest. */
@@ -676,6 +685,12 @@ static void widths(void) {
             q.has_mic = 1;
             for (size_t k = 0; k <= COUNT(WIDE); k++) {
                 w.has_mic = k < COUNT(WIDE) ? WIDE[k] : 2;
+                alike(&q, &w, &l);
+            }
+            /* Any number of odd bits is taken, and none is written. */
+            q = w = p;
+            for (size_t k = 0; k < COUNT(ODD); k++) {
+                w.odd = ODD[k];
                 alike(&q, &w, &l);
             }
         }
@@ -978,7 +993,7 @@ static void items(void) {
     static const uint8_t p11[] = {1, 2, 0xaa, 0xbb, 0, 5, 1, 2, 3, 4, 5, 2, 0, 3, 9, 0xcc};
     CHECK(do_count(true, p11, sizeof p11) == 0 && counted(2, 1, 6, 7, 3, 0));
     CHECK(do_count(false, p11, sizeof p11) == 0 && counted(3, 0, 13, 0, 3, 0));
-    /* Each byte of the longest path, as every byte: only the two bits that are ignored in an snr byte keep an event from being clean. */
+    /* Each byte of the longest path, as every byte: only the odd bits of an snr byte keep an event from being clean. */
     uint8_t path[254] = {0, 252};
     for (size_t i = 2; i < sizeof path; i++) {
         for (unsigned b = 0; b < 256; b++) {
@@ -1019,7 +1034,7 @@ static void items_alone(void) {
         CHECK(do_item_write(is_event, any, 9, NULL, 0, 2) == 0 && wrote_bytes("\11\0", 2));
         CHECK(do_item_write(is_event, any, 0, b, 5, 9) == (is_event ? 20 : 0) && do_item_write(is_event, any, 0, b, 256, 0) == 19);
     }
-    /* A heartbeat has tag 0, and its ignored bits are cleared; in a command the same bytes are a value. */
+    /* A heartbeat has tag 0, and its odd bits are cleared; in a command the same bytes are a value. */
     static const uint8_t six[] = {1, 2, 3, 4, 5, 0xff};
     CHECK(do_item_write(true, MESH_ITEM_HEARTBEAT, 9, six, 6, 8) == 0 && wrote_bytes("\0\6\1\2\3\4\5\77", 8));
     CHECK(do_item_write(true, MESH_ITEM_PROPRIETARY, 0, six, 6, 8) == 0 && wrote_bytes("\0\6\1\2\3\4\5\77", 8));
@@ -1076,7 +1091,7 @@ static uint8_t keep_all(bool is_event, const uint8_t *payload, size_t n) {
 static void walk(uint8_t kind, const uint8_t *from, size_t n) {
     const bool is_event = kind == MESH_EVENT;
     uint8_t *payload = copy(from, n);
-    uint64_t place = 0, items = 0, skipped = 0, kept_bytes = 0, skipped_bytes = 0, cut_bytes = 0, ignored = 0;
+    uint64_t place = 0, items = 0, skipped = 0, kept_bytes = 0, skipped_bytes = 0, cut_bytes = 0, odd = 0;
     mesh_items it = mesh_items_begin(is_event, payload, n);
     CHECK(it.found == MESH_END && it.refused == 0);
     while (mesh_items_next(&it)) {
@@ -1085,12 +1100,12 @@ static void walk(uint8_t kind, const uint8_t *from, size_t n) {
         CHECK(item_found[5] > place && item_found[5] <= n);
         items += it.found == MESH_KEPT;
         skipped += it.found == MESH_SKIPPED;
-        for (size_t i = 5; it.found == MESH_KEPT && it.kind == MESH_ITEM_HEARTBEAT && i < it.len; i += 6) ignored |= it.value[i] & 0xc0;
+        for (size_t i = 5; it.found == MESH_KEPT && it.kind == MESH_ITEM_HEARTBEAT && i < it.len; i += 6) odd |= it.value[i] & 0xc0;
         *(it.found == MESH_KEPT ? &kept_bytes : it.found == MESH_SKIPPED ? &skipped_bytes : &cut_bytes) += item_found[5] - place;
         place = item_found[5];
     }
     CHECK(place == n && it.found == MESH_END && it.refused == 0 && !mesh_items_next(&it));
-    CHECK(do_count(is_event, payload, n) == 0 && counted(items, skipped, kept_bytes, skipped_bytes, cut_bytes, skipped + cut_bytes + ignored == 0));
+    CHECK(do_count(is_event, payload, n) == 0 && counted(items, skipped, kept_bytes, skipped_bytes, cut_bytes, skipped + cut_bytes + odd == 0));
     walked(is_event, payload, n);
     CHECK(keep_all(is_event, payload, n) == 0 && kept_count == items);
     const mesh_lent l = {NULL, 0, payload, n, kept_kinds, kept_count, kept_spans, kept_count, NULL, 0, NULL, 0, NULL, 0};
@@ -1112,7 +1127,7 @@ static void walk(uint8_t kind, const uint8_t *from, size_t n) {
 
 static void walks(void) {
     static const uint8_t cut[] = {1, 1, 0xaa, 2, 9, 0};
-    /* A heartbeat with ignored bits, others of tag 0 and not, one that an event skips, and a cut tail. */
+    /* A heartbeat with odd bits, others of tag 0 and not, one that an event skips, and a cut tail. */
     static const uint8_t many[] = {0, 6, 1, 2, 3, 4, 80, 0xc7, 1, 2, 0xaa, 0xbb, 0, 5, 1, 2, 3, 4, 5, 0, 0, 255, 1, 7, 3, 9, 0xcc};
     uint8_t some[8180];
     uint32_t seed = 1;
@@ -1163,27 +1178,33 @@ static uint8_t do_heartbeat(const uint8_t *b, size_t n, uint64_t places, uint64_
     return r;
 }
 
+/* The low six bits of an snr byte, with their sign. */
+static int8_t snr_of(uint8_t b) { return (int8_t)(b % 64 < 32 ? b % 64 : b % 64 - 64); }
+
 static uint8_t do_entry(const uint8_t *b, size_t n, uint64_t i) {
-    uint8_t *v = copy(b, n);
+    uint8_t *v = copy(b, n), *odd = room(1);
     uint32_t *id = room(sizeof *id);
     int16_t *rssi = room(sizeof *rssi);
     int8_t *snr = room(sizeof *snr);
-    uint8_t r = mesh_heartbeat_entry(v, n, i, id, rssi, snr);
+    uint8_t r = mesh_heartbeat_entry(v, n, i, id, rssi, snr, odd);
     if (r) {
-        CHECK(untouched(id, sizeof *id) && untouched(rssi, sizeof *rssi) && untouched(snr, sizeof *snr));
+        CHECK(untouched(id, sizeof *id) && untouched(rssi, sizeof *rssi) && untouched(snr, sizeof *snr) && untouched(odd, 1));
     } else {
-        uint8_t *six = copy(b + 6 * i, 6);
+        uint8_t *six = copy(b + 6 * i, 6), *odd2 = room(1);
         uint32_t *id2 = room(sizeof *id2);
         int16_t *rssi2 = room(sizeof *rssi2);
         int8_t *snr2 = room(sizeof *snr2);
-        mesh_path_read(six, id2, rssi2, snr2);
-        CHECK(*id == *id2 && *rssi == *rssi2 && *snr == *snr2 && *rssi <= 0 && *rssi >= -255 && *snr >= -32 && *snr <= 31);
+        mesh_path_read(six, id2, rssi2, snr2, odd2);
+        CHECK(*id == *id2 && *rssi == *rssi2 && *snr == *snr2 && *odd == *odd2);
+        CHECK(*rssi == -six[4] && *snr == snr_of(six[5]) && *odd == six[5] / 64);
         back(six, b + 6 * i, 6);
+        free(odd2);
         free(id2);
         free(rssi2);
         free(snr2);
     }
     back(v, b, n);
+    free(odd);
     free(id);
     free(rssi);
     free(snr);
@@ -1263,14 +1284,16 @@ static uint8_t do_entries_read(const uint8_t *b, size_t n, size_t places) {
         uint32_t id;
         int16_t rssi;
         int8_t snr;
-        CHECK(mesh_heartbeat_entry(v, n, i, &id, &rssi, &snr) == 0 && mesh_path_entry_read(v, n, i, one) == 0);
-        CHECK(list[i].relay_id == id && list[i].rssi == rssi && list[i].snr == snr);
-        CHECK(one->relay_id == id && one->rssi == rssi && one->snr == snr);
+        uint8_t odd;
+        CHECK(mesh_heartbeat_entry(v, n, i, &id, &rssi, &snr, &odd) == 0 && mesh_path_entry_read(v, n, i, one) == 0);
+        CHECK(odd == v[6 * i + 5] / 64 && snr == snr_of(v[6 * i + 5]));
+        CHECK(list[i].relay_id == id && list[i].rssi == rssi && list[i].snr == snr && list[i].odd == odd);
+        CHECK(one->relay_id == id && one->rssi == rssi && one->snr == snr && one->odd == odd);
     }
     memset(one, BEFORE, sizeof *one);
     CHECK(mesh_path_entry_read(v, n, n / 6, one) == (n > 255 ? 19 : n % 6 ? 20 : 45) && untouched(one, sizeof *one));
     if (count) {
-        /* Written again they are the value, but for the ignored bits. */
+        /* Written again they are the value, but for the odd bits. */
         uint8_t *out = room(n);
         uint64_t *length = room(sizeof *length);
         CHECK(mesh_path_entries_write(list, count, out, n, length) == 0 && *length == n);
@@ -1309,6 +1332,13 @@ static void entries(void) {
     for (size_t n = 0; n <= 100; n++) CHECK(do_entries_write(list, n, 6 * n) == (n > 42 ? 19 : 0) && (n > 42 || written_length == 6 * n));
     CHECK(do_entries_write(list, 42, 251) == 21 && do_entries_write(list, 1, 0) == 21 && do_entries_write(list, 42, 300) == 0);
     CHECK(memcmp(written + 246, "\0\0\0\51\1\77", 6) == 0);
+    /* Any odd bits are taken, and none are written. */
+    uint8_t even[252];
+    memcpy(even, written, sizeof even);
+    for (unsigned odd = 0; odd < 256; odd++) {
+        for (size_t i = 0; i < 100; i++) list[i].odd = (uint8_t)(odd + i);
+        CHECK(do_entries_write(list, 42, 252) == 0 && wrote_bytes(even, sizeof even) && do_entries_write(list, 43, 999) == 19);
+    }
     /* The first bad entry comes before all else, wherever it stands. */
     static const int16_t bad_rssi[] = {1, -256, 0, 0};
     static const int8_t bad_snr[] = {32, 32, -33, 32};
@@ -1455,11 +1485,11 @@ static uint8_t do_uplink(uint16_t id, uint8_t dr, int16_t rssi, int8_t snr) {
     if (r) {
         CHECK(untouched(b, 5));
     } else {
-        uint64_t *n = room(3 * sizeof *n);
+        uint64_t *n = room(4 * sizeof *n);
         int16_t *rssi2 = room(sizeof *rssi2);
         int8_t *snr2 = room(sizeof *snr2);
         mesh_uplink_metadata_read(b, n, rssi2, snr2);
-        CHECK(n[0] == id && n[1] == dr && n[2] == 255 && *rssi2 == rssi && *snr2 == snr);
+        CHECK(n[0] == id && n[1] == dr && n[2] == 255 && n[3] == 0 && *rssi2 == rssi && *snr2 == snr);
         free(n);
         free(rssi2);
         free(snr2);
@@ -1486,7 +1516,7 @@ static uint8_t do_downlink(uint16_t id, uint8_t dr, uint32_t frequency, uint8_t 
 static uint8_t do_path(int16_t rssi, int8_t snr) {
     uint8_t *b = room(6);
     uint8_t r = mesh_path_write(UINT32_MAX, rssi, snr, b);
-    CHECK(r ? untouched(b, 6) : memcmp(b, "\377\377\377\377", 4) == 0);
+    CHECK(r ? untouched(b, 6) : memcmp(b, "\377\377\377\377", 4) == 0 && b[5] < 64);
     if (r == 0) CHECK(do_entry(b, 6, 0) == 0);
     free(b);
     return r;
@@ -1740,8 +1770,12 @@ static bool text(const char *expected) { return written_length == strlen(expecte
 static void dumps(void) {
     static const char *const lines[][2] = {
         {"e012355007020a0b0c0d11223344", "[Uplink hop_count: 1, uplink_id: 291, relay_id: 0a0b0c0d, mic: 11223344]"},
+        {"e012355047020a0b0c0d11223344", "[Uplink hop_count: 1, uplink_id: 291, relay_id: 0a0b0c0d, mic: 11223344 odd: 1]"},
+        {"e012355087020a0b0c0d11223344", "[Uplink hop_count: 1, uplink_id: 291, relay_id: 0a0b0c0d, mic: 11223344 odd: 2]"},
+        {"e7ffffffffffffffffffffffffff", "[Uplink hop_count: 8, uplink_id: 4095, relay_id: ffffffff, mic: ffffffff odd: 3]"},
         {"F20000003c0a0b0c0d01020304", "[Event hop_count: 3, timestamp: 60, relay_id: 0a0b0c0d]"},
         {"efffff000000000a0b0c0dffffffff", "[Downlink hop_count: 8, uplink_id: 4095, relay_id: 0a0b0c0d, mic: ffffffff]"},
+        {"efffffffffffff0a0b0c0dffffffff", "[Downlink hop_count: 8, uplink_id: 4095, relay_id: 0a0b0c0d, mic: ffffffff]"},
         {"ffffffffff0a0b0c0d01020304", "[Command hop_count: 8, timestamp: 4294967295, relay_id: 0a0b0c0d]"},
         {"40", "lora 1"},
         {"e0", "refused 2"},
@@ -1778,6 +1812,14 @@ static uint8_t do_text(const mesh_packet *p, size_t out_len) {
     return r;
 }
 
+/* That text, and before its bracket the odd bits where they are shown. */
+static bool text_with(const char *even, uint64_t odd) {
+    static const char *const ends[] = {"]", " odd: 1]", " odd: 2]", " odd: 3]"};
+    const char *end = ends[odd < COUNT(ends) ? odd : 0];
+    const size_t n = strlen(even) - 1, m = strlen(end);
+    return written_length == n + m && memcmp(written, even, n) == 0 && memcmp(written + n, end, m) == 0;
+}
+
 static void texts_of_packets(void) {
     static const char *const shown[][2] = {
         {"[Uplink hop_count: 1, uplink_id: 291, relay_id: 0a0b0c0d, mic: 01020304]", "[Uplink hop_count: 1, uplink_id: 291, relay_id: 0a0b0c0d, mic: ]"},
@@ -1796,6 +1838,18 @@ static void texts_of_packets(void) {
             uint64_t length = 0;
             CHECK(mesh_packet_text(&p, out, sizeof out, &length) == 0 && length == most && memcmp(out, shown[kind][bare], most) == 0);
             CHECK(mesh_packet_text(&p, NULL, 9, &length) == 45 && mesh_packet_text(&p, NULL, 0, &length) == 21 && length == most);
+            /* Odd bits are shown of an uplink, 1 to 3. */
+            for (size_t k = 0; k < COUNT(ODD); k++) {
+                const uint64_t odd = kind == MESH_UPLINK ? ODD[k] : 0;
+                const size_t all = most + (odd > 0 && odd < 4 ? 7 : 0);
+                p.odd = ODD[k];
+                CHECK(do_text(&p, 99) == 0 && text_with(shown[kind][bare], odd) && do_text(&p, all) == 0 && text_with(shown[kind][bare], odd));
+                CHECK(do_text(&p, all - 1) == 21 && do_text(&p, most - 1) == 21 && do_text(&p, 0) == 21);
+                memset(out, BEFORE, sizeof out);
+                CHECK((length = 77, mesh_packet_text(&p, out, all - 1, &length)) == 21 && length == 77 && untouched(out, sizeof out));
+                CHECK(mesh_packet_text(&p, out, all, &length) == 0 && length == all && memcmp(out, written, all) == 0);
+            }
+            p.odd = 0;
             /* A hop count is a byte, and more counts as its largest; the fields are shown as they are. */
             p.hop_count = UINT64_MAX;
             CHECK(do_text(&p, 99) == 0 && written_length == most + 2);
@@ -1811,6 +1865,90 @@ static void texts_of_packets(void) {
     p = good(MESH_DOWNLINK);
     p.payload_type = MESH_COMMAND;
     CHECK(do_text(&p, 99) == 0 && text("[Command hop_count: 1, uplink_id: 291, relay_id: 0a0b0c0d, mic: 01020304]"));
+    p.payload_type = MESH_UPLINK, p.odd = 3;
+    CHECK(do_text(&p, 99) == 0 && text("[Uplink hop_count: 1, uplink_id: 291, relay_id: 0a0b0c0d, mic: 01020304]"));
+    /* The longest. */
+    p = good(MESH_UPLINK);
+    p.payload_type = MESH_DOWNLINK, p.hop_count = UINT64_MAX, p.uplink_id = UINT16_MAX, p.relay_id = p.mic = UINT32_MAX, p.odd = 3;
+    CHECK(do_text(&p, MESH_TEXT_MOST) == 0 && text("[Downlink hop_count: 255, uplink_id: 65535, relay_id: ffffffff, mic: ffffffff odd: 3]"));
+}
+
+/* ---- odd bits: every snr byte, beside bytes that have these two bits set, and not, themselves */
+
+static void odd_metadata(const uint8_t from[5]) {
+    uint8_t *b = copy(from, 5), *again = room(5);
+    uint64_t *n = room(4 * sizeof *n);
+    int16_t *rssi = room(sizeof *rssi);
+    int8_t *snr = room(sizeof *snr);
+    mesh_uplink_metadata_read(b, n, rssi, snr);
+    CHECK(n[0] == b[0] * 16u + b[1] / 16 && n[1] == b[1] % 16 && n[2] == b[4] && n[3] == b[3] / 64 && *rssi == -b[2] && *snr == snr_of(b[3]));
+    CHECK(mesh_uplink_metadata_write((uint16_t)n[0], (uint8_t)n[1], *rssi, *snr, (uint8_t)n[2], again) == 0);
+    CHECK(again[3] == b[3] % 64 && (memcmp(again, b, 5) == 0) == (n[3] == 0));
+    back(b, from, 5);
+    free(again);
+    free(n);
+    free(rssi);
+    free(snr);
+}
+
+/* A frame of any kind, read by each reader and written, signed and edited. Its fifth byte is the snr of an uplink. */
+static void odd_frame(uint8_t kind, const uint8_t from[20]) {
+    const uint64_t odd = kind == MESH_UPLINK ? from[4] / 64 : 0;
+    uint8_t even[20], frame[20];
+    memcpy(frame, from, 20);
+    memcpy(even, from, 20);
+    if (odd) even[4] %= 64;
+    CHECK(do_read(ANY, 0, even, 20) == 0 && read_as.kind == kind && read_as.odd == 0);
+    mesh_packet p = read_as;
+    for (enum reader reader = ANY; reader <= (kind == MESH_LORA ? ANY : MESH); reader++) {
+        CHECK(do_read(reader, 0, frame, 20) == 0 && read_as.odd == odd && read_as.rssi == p.rssi && read_as.snr == p.snr);
+        CHECK(kind != MESH_UPLINK || read_as.snr == snr_of(frame[4]));
+        read_as.odd = 0;
+        CHECK(memcmp(&read_as, &p, NUMBERS) == 0);
+    }
+    CHECK(mesh_packet_read(&p, frame, 20) == 0 && p.odd == odd);
+    const mesh_lent l = mesh_lent_frame(frame, 20);
+    CHECK(do_write(false, &p, &l, 20) == 0 && wrote_bytes(even, 20) && wrote_bytes(frame, 20) == (odd == 0));
+    if (kind == MESH_LORA) return;
+    CHECK(mesh_packet_read_mesh(&p, frame, 20) == 0 && p.odd == odd && do_read(BODY, kind, frame + 1, 15) == 0 && read_as.odd == odd);
+    CHECK(mesh_packet_read_body(&p, kind, frame + 1, 15) == 0 && p.odd == odd && mesh_packet_read(&p, frame, 20) == 0);
+    CHECK(do_write(true, &p, &l, 15) == 0 && wrote_bytes(even + 1, 15));
+    /* The text, of the frame and of the packet. */
+    char shown[MESH_TEXT_MOST + 1] = "";
+    CHECK(do_dump(false, even, 20, MESH_TEXT_MOST) == 0);
+    memcpy(shown, written, written_length);
+    CHECK(do_dump(false, frame, 20, MESH_TEXT_MOST) == 0 && text_with(shown, odd) && do_text(&p, MESH_TEXT_MOST) == 0 && text_with(shown, odd));
+    /* The MIC is over bytes that have the bits 0, so it holds with any. */
+    CHECK(do_sign(&p, &l) == 0);
+    const uint64_t mic = p.mic = mic_made;
+    CHECK(do_validate(&p, &l) == 0 && was_valid == 1);
+    p.odd = 0;
+    CHECK(do_validate(&p, &l) == 0 && was_valid == 1 && do_sign(&p, &l) == 0 && mic_made == mic);
+    /* The hop edit clears them in the frame. */
+    CHECK(do_hops(frame, 20, 8) == 0 && frame[4] == even[4] && do_read(MESH, 0, frame, 20) == 0 && read_as.odd == 0);
+    p.hop_count = 8;
+    p.mic = read_as.mic;
+    CHECK(memcmp(&read_as, &p, NUMBERS) == 0 && read_as.rssi == p.rssi && read_as.snr == p.snr && do_validate(&p, &l) == 0 && was_valid == 1);
+}
+
+static void odd_bits(void) {
+    static const uint8_t beside[] = {0, 0x40, 0x80, 0xff};
+    for (unsigned b = 0; b < 256; b++)
+        for (size_t i = 0; i < COUNT(beside); i++) {
+            uint8_t some[20];
+            memset(some, beside[i], sizeof some);
+            some[4] = (uint8_t)b;
+            odd_metadata(some + 1);
+            for (uint8_t kind = MESH_UPLINK; kind <= MESH_LORA; kind++) {
+                some[0] = kind == MESH_LORA ? 0x40 : (uint8_t)(0xe0 | kind << 3);
+                odd_frame(kind, some);
+            }
+            /* Three entries, no two with the same odd bits. */
+            some[0] = some[4] = beside[i];
+            for (size_t k = 0; k < 3; k++) some[6 * k + 5] = (uint8_t)(b + 64 * k);
+            for (size_t k = 0; k < 3; k++) CHECK(do_entry(some, 18, k) == 0);
+            CHECK(do_entries_read(some, 18, 3) == 0 && do_entries_read(some, 18, 2) == 21 && do_entries_read(some, 17, 3) == 20);
+        }
 }
 
 /* ---- the texts of refusals */
@@ -1892,6 +2030,7 @@ int main(void) {
     caches();
     dumps();
     texts_of_packets();
+    odd_bits();
     printf("%lu checks passed\n", checks);
     return 0;
 }

@@ -378,6 +378,8 @@ static mesh_packet up_meta(mesh_packet p) {
     p.rssi = i16_of(word());
     p.snr = i8_of(word());
     p.channel = u8_of(word());
+    /* any number is taken, and none is written or shown */
+    p.odd = UINT64_MAX;
     return p;
 }
 
@@ -878,7 +880,7 @@ static uint8_t do_typew(void) {
 
 static uint8_t do_upmeta(void) {
     uint8_t b[5];
-    uint64_t n[3];
+    uint64_t n[4];
     mesh_packet p = NOTHING;
     sized(word(), b, 5);
     if (!whole()) return 0;
@@ -948,9 +950,10 @@ static uint8_t do_path(void) {
     uint32_t relay_id;
     int16_t rssi;
     int8_t snr;
+    uint8_t odd;
     sized(word(), b, 6);
     if (!whole()) return 0;
-    mesh_path_read(b, &relay_id, &rssi, &snr);
+    mesh_path_read(b, &relay_id, &rssi, &snr, &odd);
     put_entry(relay_id, rssi, snr);
     return 0;
 }
@@ -964,17 +967,67 @@ static uint8_t do_pathw(void) {
     return r;
 }
 
-static uint8_t do_hb(void) {
+/* The path of a heartbeat's value, which is the last word. */
+static uint8_t path_of_value(mesh_path_entry list[MESH_PATH_MOST], uint64_t *entries) {
     span s = hex();
-    mesh_path_entry list[MESH_PATH_MOST];
-    uint64_t entries = 0;
+    *entries = 0;
     if (!whole()) return 0;
     slice b = bytes_of(s);
-    uint8_t r = mesh_path_entries_read(b.at, b.n, list, MESH_PATH_MOST, &entries);
+    return mesh_path_entries_read(b.at, b.n, list, MESH_PATH_MOST, entries);
+}
+
+static uint8_t do_hb(void) {
+    mesh_path_entry list[MESH_PATH_MOST];
+    uint64_t entries;
+    uint8_t r = path_of_value(list, &entries);
     if (r) return r;
     put_number((int64_t)entries), put(" ");
     if (entries == 0) put("-");
     put_path(list, entries);
+    return 0;
+}
+
+/* The odd bits that are read: of a frame, of metadata, of a path entry, of each entry of a heartbeat's value. */
+static uint8_t do_odd(void) {
+    slice of = word();
+    if (is(of, "frame")) {
+        span s = hex();
+        mesh_packet p;
+        if (!whole()) return 0;
+        slice b = bytes_of(s);
+        uint8_t r = mesh_packet_read_mesh(&p, b.at, b.n);
+        if (r == 0) put_number((int64_t)p.odd);
+        return r;
+    }
+    if (is(of, "upmeta")) {
+        uint8_t b[5];
+        uint64_t n[4];
+        mesh_packet p;
+        sized(word(), b, 5);
+        if (!whole()) return 0;
+        mesh_uplink_metadata_read(b, n, &p.rssi, &p.snr);
+        put_number((int64_t)n[3]);
+        return 0;
+    }
+    if (is(of, "path")) {
+        uint8_t b[6];
+        mesh_path_entry e;
+        sized(word(), b, 6);
+        if (!whole()) return 0;
+        mesh_path_read(b, &e.relay_id, &e.rssi, &e.snr, &e.odd);
+        put_number(e.odd);
+        return 0;
+    }
+    if (is(of, "hb")) {
+        mesh_path_entry list[MESH_PATH_MOST];
+        uint64_t entries;
+        uint8_t r = path_of_value(list, &entries);
+        if (r) return r;
+        if (entries == 0) put("-");
+        for (uint64_t i = 0; i < entries; i++) put(i ? " " : ""), put_number(list[i].odd);
+        return 0;
+    }
+    bad("what has odd bits");
     return 0;
 }
 
@@ -1159,6 +1212,7 @@ static const struct {
     {"pathw", do_pathw},
     {"hb", do_hb},
     {"hbw", do_hbw},
+    {"odd", do_odd},
     {"keytext", do_keytext},
     {"key", do_key},
     {"nullkey", do_nullkey},

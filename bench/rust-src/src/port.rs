@@ -26,12 +26,13 @@ pub struct Packet {
     pub content: u64,
     pub start: u64,
     pub len: u64,
+    pub odd: u64,
     pub rssi: i16,
     pub snr: i8,
 }
 
 // as the header's static assertions
-const _: () = assert!(std::mem::offset_of!(Packet, len) == 8 * (MESH_PACKET_NUMBERS - 1));
+const _: () = assert!(std::mem::offset_of!(Packet, odd) == 8 * (MESH_PACKET_NUMBERS - 1));
 
 impl Packet {
     fn numbers(&self) -> *const Numbers {

@@ -106,13 +106,15 @@ pub struct UplinkMetadata {
     pub snr: i8,
     /// Any.
     pub channel: u8,
+    /// The two bits above the snr as found, 0 to 3. Any value is taken, and none is written.
+    pub odd: u8,
 }
 
 impl UplinkMetadata {
     /// The metadata of any five bytes.
     pub fn from_bytes(b: [u8; 5]) -> Self {
-        let ([uplink_id, dr, channel], rssi, snr) = raw::uplink_metadata_read(&b);
-        UplinkMetadata { uplink_id: uplink_id as u16, dr: dr as u8, rssi, snr, channel: channel as u8 }
+        let ([uplink_id, dr, channel, odd], rssi, snr) = raw::uplink_metadata_read(&b);
+        UplinkMetadata { uplink_id: uplink_id as u16, dr: dr as u8, rssi, snr, channel: channel as u8, odd: odd as u8 }
     }
 
     /// Its bytes, or the first field that is none.
@@ -164,11 +166,13 @@ pub struct RelayPath {
     pub rssi: i16,
     /// -32 to 31.
     pub snr: i8,
+    /// The two bits above the snr as found, 0 to 3. Any value is taken, and none is written.
+    pub odd: u8,
 }
 
 impl RelayPath {
-    pub(crate) fn of((relay_id, rssi, snr): (u32, i16, i8)) -> Self {
-        RelayPath { relay_id: relay_id.into(), rssi, snr }
+    pub(crate) fn of((relay_id, rssi, snr, odd): (u32, i16, i8, u8)) -> Self {
+        RelayPath { relay_id: relay_id.into(), rssi, snr, odd }
     }
 
     /// The entry of any six bytes.

@@ -19,8 +19,8 @@ pub struct Opening {
     pub skipped_bytes: usize,
     /// The bytes of an item that the payload's end cuts.
     pub cut_bytes: usize,
-    /// Whether nothing was skipped or cut and no path entry has one of the two bits set that are ignored in an snr byte. This is so exactly where
-    /// writing the kept items gives the payload back, byte for byte. A command has no path entries.
+    /// Whether nothing was skipped or cut and no path entry has odd bits ([`RelayPath::odd`](crate::RelayPath::odd)). This is so exactly where writing
+    /// the kept items gives the payload back, byte for byte. A command has no path entries.
     pub clean: bool,
 }
 
@@ -105,7 +105,7 @@ pub enum Kept<'a> {
 }
 
 impl Kept<'_> {
-    /// The item of an event, with its own bytes. Composed again it is written as it stood, but for the ignored bits of a path, which are 0.
+    /// The item of an event, with its own bytes. Composed again it is written as it stood, but for the odd bits of a path, which are 0.
     pub fn to_item(&self) -> Item {
         match self {
             Kept::Heartbeat(h) => Item::Heartbeat(h.relay_path()),

@@ -220,7 +220,7 @@ impl<'a, I> Content<'a, I> {
 impl<'a> UplinkPayload<'a> {
     fn of(f: &PacketNumbers, frame: &'a [u8]) -> Result<Self, Refusal> {
         Ok(UplinkPayload {
-            metadata: UplinkMetadata { uplink_id: f.uplink_id, dr: f.dr, rssi: f.rssi, snr: f.snr, channel: f.channel },
+            metadata: UplinkMetadata { uplink_id: f.uplink_id, dr: f.dr, rssi: f.rssi, snr: f.snr, channel: f.channel, odd: f.odd },
             relay_id: f.relay_id.into(),
             phy_payload: part(frame, f.start, f.len)?,
         })
@@ -237,6 +237,7 @@ impl<'a> UplinkPayload<'a> {
             rssi: m.rssi,
             snr: m.snr,
             channel: m.channel,
+            odd: m.odd,
             len: self.phy_payload.len() as u64,
             ..PacketNumbers::default()
         }

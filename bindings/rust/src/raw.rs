@@ -29,6 +29,7 @@ pub(crate) struct PacketNumbers {
     pub content: u8,
     pub start: u64,
     pub len: u64,
+    pub odd: u8,
     pub rssi: i16,
     pub snr: i8,
 }
@@ -53,6 +54,7 @@ impl PacketNumbers {
             content: n[13] as u8,
             start: n[14],
             len: n[15],
+            odd: n[16] as u8,
             rssi,
             snr,
         }
@@ -76,6 +78,7 @@ impl PacketNumbers {
             self.content.into(),
             self.start,
             self.len,
+            self.odd.into(),
         ]
     }
 }
@@ -300,10 +303,10 @@ pub(crate) fn heartbeat(value: &[u8], places: u64) -> Result<u64, Refusal> {
     Ok(entries)
 }
 
-pub(crate) fn heartbeat_entry(value: &[u8], i: u64) -> Result<(u32, i16, i8), Refusal> {
-    let (mut relay_id, mut rssi, mut snr) = (0, 0, 0);
-    answer(unsafe { sys::mesh_heartbeat_entry(value.as_ptr(), value.len(), i, &mut relay_id, &mut rssi, &mut snr) })?;
-    Ok((relay_id, rssi, snr))
+pub(crate) fn heartbeat_entry(value: &[u8], i: u64) -> Result<(u32, i16, i8, u8), Refusal> {
+    let (mut relay_id, mut rssi, mut snr, mut odd) = (0, 0, 0, 0);
+    answer(unsafe { sys::mesh_heartbeat_entry(value.as_ptr(), value.len(), i, &mut relay_id, &mut rssi, &mut snr, &mut odd) })?;
+    Ok((relay_id, rssi, snr, odd))
 }
 
 pub(crate) fn heartbeat_write(ids: &[u32], rssis: &[i16], snrs: &[i8], out: &mut [u8]) -> Result<usize, Refusal> {
@@ -342,8 +345,8 @@ pub(crate) fn header_write(type_: u8, hop_count: u8) -> Result<u8, Refusal> {
     Ok(b)
 }
 
-pub(crate) fn uplink_metadata_read(b: &[u8; 5]) -> ([u64; 3], i16, i8) {
-    let (mut numbers, mut rssi, mut snr) = ([0; 3], 0, 0);
+pub(crate) fn uplink_metadata_read(b: &[u8; 5]) -> ([u64; 4], i16, i8) {
+    let (mut numbers, mut rssi, mut snr) = ([0; 4], 0, 0);
     unsafe { sys::mesh_uplink_metadata_read(b, &mut numbers, &mut rssi, &mut snr) };
     (numbers, rssi, snr)
 }
@@ -378,10 +381,10 @@ pub(crate) fn frequency_write(hertz: u32) -> Result<[u8; 3], Refusal> {
     Ok(b)
 }
 
-pub(crate) fn path_read(b: &[u8; 6]) -> (u32, i16, i8) {
-    let (mut relay_id, mut rssi, mut snr) = (0, 0, 0);
-    unsafe { sys::mesh_path_read(b, &mut relay_id, &mut rssi, &mut snr) };
-    (relay_id, rssi, snr)
+pub(crate) fn path_read(b: &[u8; 6]) -> (u32, i16, i8, u8) {
+    let (mut relay_id, mut rssi, mut snr, mut odd) = (0, 0, 0, 0);
+    unsafe { sys::mesh_path_read(b, &mut relay_id, &mut rssi, &mut snr, &mut odd) };
+    (relay_id, rssi, snr, odd)
 }
 
 pub(crate) fn path_write(relay_id: u32, rssi: i16, snr: i8) -> Result<[u8; 6], Refusal> {

@@ -6,12 +6,12 @@
 #![allow(dead_code)]
 
 // from include/mesh.table: codes
-pub(crate) const MESH_VERSION: u32 = 5;
+pub(crate) const MESH_VERSION: u32 = 6;
 
 // enum mesh_size
 pub(crate) const MESH_CACHE_WORDS: usize = 195;
 pub(crate) const MESH_CIPHER_WORDS: usize = 260;
-pub(crate) const MESH_PACKET_NUMBERS: usize = 16;
+pub(crate) const MESH_PACKET_NUMBERS: usize = 17;
 pub(crate) const MESH_RECORD_NUMBERS: usize = 4;
 pub(crate) const MESH_COUNTS_NUMBERS: usize = 6;
 pub(crate) const MESH_ITEM_NUMBERS: usize = 6;
@@ -215,7 +215,15 @@ extern "C" {
 
     // Heartbeats.
     pub(crate) fn mesh_heartbeat(value: *const u8, n: usize, places: u64, entries: *mut u64) -> u8;
-    pub(crate) fn mesh_heartbeat_entry(value: *const u8, n: usize, i: u64, relay_id: *mut u32, rssi: *mut i16, snr: *mut i8) -> u8;
+    pub(crate) fn mesh_heartbeat_entry(
+        value: *const u8,
+        n: usize,
+        i: u64,
+        relay_id: *mut u32,
+        rssi: *mut i16,
+        snr: *mut i8,
+        odd: *mut u8,
+    ) -> u8;
     pub(crate) fn mesh_heartbeat_write(
         ids: *const u32,
         ids_len: usize,
@@ -232,13 +240,13 @@ extern "C" {
     pub(crate) fn mesh_type(n: u8) -> u8;
     pub(crate) fn mesh_header_read(b: u8, header: *mut [u8; 2]) -> u8;
     pub(crate) fn mesh_header_write(type_: u8, hop_count: u8, b: *mut u8) -> u8;
-    pub(crate) fn mesh_uplink_metadata_read(b: *const [u8; 5], numbers: *mut [u64; 3], rssi: *mut i16, snr: *mut i8);
+    pub(crate) fn mesh_uplink_metadata_read(b: *const [u8; 5], numbers: *mut [u64; 4], rssi: *mut i16, snr: *mut i8);
     pub(crate) fn mesh_uplink_metadata_write(uplink_id: u16, dr: u8, rssi: i16, snr: i8, channel: u8, b: *mut [u8; 5]) -> u8;
     pub(crate) fn mesh_downlink_metadata_read(b: *const [u8; 6], numbers: *mut [u64; 5]);
     pub(crate) fn mesh_downlink_metadata_write(uplink_id: u16, dr: u8, frequency: u32, tx_power: u8, delay: u8, b: *mut [u8; 6]) -> u8;
     pub(crate) fn mesh_frequency_read(b: *const u8, n: usize, hertz: *mut u32) -> u8;
     pub(crate) fn mesh_frequency_write(hertz: u32, b: *mut [u8; 3]) -> u8;
-    pub(crate) fn mesh_path_read(b: *const [u8; 6], relay_id: *mut u32, rssi: *mut i16, snr: *mut i8);
+    pub(crate) fn mesh_path_read(b: *const [u8; 6], relay_id: *mut u32, rssi: *mut i16, snr: *mut i8, odd: *mut u8);
     pub(crate) fn mesh_path_write(relay_id: u32, rssi: i16, snr: i8, b: *mut [u8; 6]) -> u8;
 
     // Keys, cipher and MIC.

@@ -10,7 +10,7 @@ fn uplink(phy_payload: &[u8]) -> MeshPacket<'_> {
     MeshPacket {
         mhdr: Header { payload_type: PayloadType::Uplink, hop_count: 1 },
         payload: Payload::Uplink(UplinkPayload {
-            metadata: UplinkMetadata { uplink_id: 291, dr: 5, rssi: -80, snr: 7, channel: 2 },
+            metadata: UplinkMetadata { uplink_id: 291, dr: 5, rssi: -80, snr: 7, channel: 2, odd: 0 },
             relay_id: RelayId([10, 11, 12, 13]),
             phy_payload,
         }),
@@ -108,8 +108,136 @@ fn uplink_fields() {
         assert_eq!(p.to_vec().map_err(Refusal::number), Err(number));
         assert_eq!(p.metadata.to_bytes().map_err(Refusal::number), Err(number));
     }
-    let most = with(|m| *m = UplinkMetadata { uplink_id: 4095, dr: 15, rssi: -255, snr: -32, channel: 255 });
+    let most = with(|m| *m = UplinkMetadata { uplink_id: 4095, dr: 15, rssi: -255, snr: -32, channel: 255, odd: 0 });
     assert_eq!(MeshPacket::from_slice(&most.to_vec().unwrap()), Ok(most.clone()));
+}
+
+/// Every snr byte, beside bytes that have these two bits set, and not, themselves: told by all that reads one, and written as 0.
+#[test]
+fn odd_bits_read() {
+    for b in 0..=255 {
+        let (odd, even, snr) = (b / 64, b % 64, (b << 2) as i8 >> 2);
+        for n in [0, 0x40, 0x80, 0xff] {
+            let m = UplinkMetadata::from_bytes([n, n, n, b, n]);
+            assert_eq!(m, UplinkMetadata { odd, snr, ..UplinkMetadata::from_bytes([n, n, n, 0, n]) });
+            assert_eq!(m.to_bytes(), Ok([n, n, n, even, n]));
+            assert_eq!(m.to_bytes() == Ok([n, n, n, b, n]), odd == 0);
+
+            let p = RelayPath::from_bytes([n, n, n, n, n, b]);
+            assert_eq!(p, RelayPath { relay_id: RelayId([n; 4]), rssi: -i16::from(n), snr, odd });
+            assert_eq!(p.to_bytes(), Ok([n, n, n, n, n, even]));
+            assert_eq!(p.to_bytes() == Ok([n, n, n, n, n, b]), odd == 0);
+
+            // Three entries, no two with the same odd bits.
+            let value: Vec<u8> = (0..3).flat_map(|i| [n, n, n, n, n, b.wrapping_add(64 * i)]).collect();
+            let path = [0, 1, 2].map(|i| RelayPath { odd: (odd + i) % 4, ..p });
+            let beat = Heartbeat::from_slice(&value).unwrap();
+            let mut list = [RelayPath::default(); 3];
+            assert_eq!((beat.read_into(&mut list), list), (Ok(3), path));
+            assert_eq!(beat.relay_path(), path);
+            for (i, entry) in path.iter().enumerate() {
+                assert_eq!(beat.entry(i), Ok(*entry));
+            }
+            let cleared = [n, n, n, n, n, even].repeat(3);
+            assert_eq!(heartbeat_to_vec(&path).as_ref(), Ok(&cleared));
+            let payload = [&[0, 18], &value[..]].concat();
+            let Some(Found::Kept(kept)) = Items::of_event(&payload).unwrap().next() else { panic!() };
+            assert_eq!(kept.to_item(), Item::Heartbeat(path.to_vec()));
+            assert_eq!(kept.to_item().encode().unwrap()[2..], cleared);
+
+            for first in [0xe0, 0xe8, 0xf0, 0xf8] {
+                let mut frame = vec![n; 20];
+                (frame[0], frame[4]) = (first, b);
+                let p = MeshPacket::from_slice(&frame).unwrap();
+                assert_eq!(Packet::from_slice(&frame), Ok(Packet::Mesh(p.clone())));
+                let mut written = frame.clone();
+                if let Payload::Uplink(u) = &p.payload {
+                    assert_eq!(u.metadata, m);
+                    assert_eq!(UplinkPayload::from_slice(&frame[1..16]).as_ref(), Ok(u));
+                    written[4] = even;
+                }
+                let shows = first == 0xe0 && odd > 0;
+                assert_eq!(p.to_vec().as_ref(), Ok(&written));
+                assert_eq!(p.to_vec().as_ref() == Ok(&frame), !shows);
+                // Before the bracket stand those that were read.
+                let (text, plain) = (dump_frame_text(&frame).unwrap(), dump_frame_text(&written).unwrap());
+                assert_eq!(text, if shows { plain.replace(']', &format!(" odd: {odd}]")) } else { plain });
+                assert_eq!(p.to_string(), text);
+                assert!(text.len() <= TEXT_MOST);
+            }
+        }
+    }
+}
+
+/// Any odd bits are taken by all that writes, signs and seals, and none are written. Of an uplink 1, 2 and 3 are shown.
+#[test]
+fn odd_bits_given() {
+    let even = uplink(&[1, 2, 3]);
+    let with = |packet: &MeshPacket<'static>, odd| {
+        let mut packet = packet.clone();
+        if let Payload::Uplink(p) = &mut packet.payload {
+            p.metadata.odd = odd;
+        }
+        packet
+    };
+    let entry = RelayPath { relay_id: RelayId([1, 2, 3, 4]), rssi: -1, snr: -1, odd: 0 };
+    let sealed = |path: &[RelayPath]| {
+        let mut out = [0; 20];
+        let mut packet = event(Content::Items(vec![Item::Heartbeat(path.to_vec())]));
+        let open = packet.to_vec().unwrap();
+        packet.encrypt(&root(), &mut out).unwrap();
+        packet.set_mic(&root()).unwrap();
+        (open, packet.to_vec().unwrap())
+    };
+    let mut signed = even.clone();
+    signed.set_mic(&root()).unwrap();
+    for odd in 0..=255 {
+        let packet = with(&even, odd);
+        let Payload::Uplink(p) = &packet.payload else { unreachable!() };
+        assert_eq!(packet.to_vec(), even.to_vec());
+        assert_eq!(Packet::Mesh(packet.clone()).to_vec(), even.to_vec());
+        assert_eq!(p.to_vec().unwrap(), even.to_vec().unwrap()[1..13]);
+        assert_eq!(p.metadata.to_bytes(), Ok([0x12, 0x35, 0x50, 0x07, 0x02]));
+        assert_eq!(packet.record(), even.record());
+        let mut other = packet.clone();
+        assert_eq!(other.set_mic(&root()), Ok(()));
+        assert_eq!(other, with(&signed, odd));
+        assert_eq!(other.validate_mic(&root()), Ok(true));
+        assert_eq!(other.encrypt(&root(), &mut []), Ok(()));
+        assert_eq!(other.decode(), Ok(Some(Opening { clean: true, ..Opening::default() })));
+        assert_eq!(other, with(&signed, odd));
+        assert_eq!(MeshPacket::from_slice(&other.to_vec().unwrap()), Ok(signed.clone()));
+
+        let path = [RelayPath { odd, ..entry }, entry];
+        assert_eq!(path[0].to_bytes(), Ok([1, 2, 3, 4, 1, 0x3f]));
+        assert_eq!(heartbeat_to_vec(&path), heartbeat_to_vec(&[entry; 2]));
+        assert_eq!(Event::Heartbeat(path.to_vec()).encode(), Event::Heartbeat(vec![entry; 2]).encode());
+        assert_eq!(sealed(&path), sealed(&[entry; 2]));
+
+        let shown = if (1..4).contains(&odd) { format!(" odd: {odd}]") } else { "]".into() };
+        let text = even.to_string().replace(']', &shown);
+        assert_eq!(packet.to_string(), text);
+        assert_eq!(MeshPacket { mic: None, ..packet.clone() }.to_string(), text.replace("01020304", ""));
+        let mut out = [BEFORE; 99];
+        assert_eq!(packet.write_text(&mut out[..text.len() - 1]), Err(Refusal::OutputShort));
+        assert_eq!(out, [BEFORE; 99]);
+        assert_eq!(packet.write_text(&mut out), Ok(text.len()));
+        // The label goes by the header, the bits by the payload.
+        let header = Header { payload_type: PayloadType::Downlink, hop_count: 1 };
+        assert_eq!(MeshPacket { mhdr: header, ..packet.clone() }.to_string(), text.replace("Uplink", "Downlink"));
+    }
+    // What is refused is refused for that, whatever the bits.
+    for odd in [0, 3, 255] {
+        let mut packet = with(&even, odd);
+        if let Payload::Uplink(p) = &mut packet.payload {
+            p.metadata.snr = 32;
+        }
+        refused(&packet, 13);
+        assert_eq!(RelayPath { odd, snr: 32, ..entry }.to_bytes(), Err(Refusal::SnrLarge));
+    }
+    for packet in [downlink(&[1, 2, 3]), event(Content::Empty), command(Content::Empty)] {
+        assert!(!MeshPacket { mhdr: even.mhdr, ..packet }.to_string().contains("odd"));
+    }
 }
 
 #[test]
@@ -187,7 +315,7 @@ fn frames_at_the_most() {
 
 #[test]
 fn composed_items() {
-    let entry = RelayPath { relay_id: RelayId([1, 2, 3, 4]), rssi: -1, snr: -1 };
+    let entry = RelayPath { relay_id: RelayId([1, 2, 3, 4]), rssi: -1, snr: -1, odd: 0 };
     let items = |list: Vec<Item>| event(Content::Items(list));
     refused(&items(vec![Item::Heartbeat(vec![entry; 43])]), 19);
     refused(&items(vec![Item::Proprietary(1, vec![0; 256])]), 19);
@@ -247,7 +375,7 @@ fn composed_items() {
 /// What was read and is given back unchanged is written as the open payload itself is.
 #[test]
 fn given_back() {
-    // A heartbeat with ignored bits, others of tags 0 and not, one that an event skips, and a cut tail.
+    // A heartbeat with odd bits, others of tags 0 and not, one that an event skips, and a cut tail.
     let payload = hex("0006 01020304 50c7 0102aabb 0005 0102030405 0000 ff0107 0309cc");
     let kept = |items: Items| items.filter_map(|f| if let Found::Kept(k) = f { Some(k.to_item()) } else { None }).collect::<Vec<_>>();
     let again = kept(Items::of_event(&payload).unwrap());
@@ -272,7 +400,7 @@ fn given_back() {
 /// Clean is told exactly where the opened packet is written as the payload stood.
 #[test]
 fn clean_as_written() {
-    // One path entry, or two, with none of an snr byte's two ignored bits, or one of them; one of tag 1; one skipped; one byte cut.
+    // One path entry, or two, with none of an snr byte's odd bits, or one of them; one of tag 1; one skipped; one byte cut.
     for (payload, in_event, in_command) in [
         ("", true, true),
         ("0006 01020304 5007", true, true),
@@ -411,7 +539,7 @@ fn items_and_heartbeats() {
 
 #[test]
 fn heartbeats_written() {
-    let path = [RelayPath { relay_id: RelayId([1, 2, 3, 4]), rssi: -255, snr: -1 }; 43];
+    let path = [RelayPath { relay_id: RelayId([1, 2, 3, 4]), rssi: -255, snr: -1, odd: 0 }; 43];
     let mut out = [BEFORE; 258];
     assert_eq!(write_heartbeat(&path, &mut out), Err(Refusal::ItemLong));
     assert_eq!(write_heartbeat(&path[..42], &mut out[..251]), Err(Refusal::OutputShort));
@@ -533,11 +661,33 @@ fn hop_edit() {
         let p = MeshPacket::from_slice(&frame).unwrap();
         assert_eq!((p.mhdr.hop_count, p.validate_mic(&key)), (hop_count, Ok(true)));
     }
+    // An uplink's odd bits are cleared in the frame, and all else but count and MIC stays; the MIC holds with any of them.
+    for odd in 0..4 {
+        let mut b = frame.clone();
+        b[4] |= odd << 6;
+        let p = MeshPacket::from_slice(&b).unwrap();
+        assert_eq!(p.validate_mic(&key), Ok(true));
+        let Payload::Uplink(u) = &p.payload else { unreachable!() };
+        assert_eq!(u.metadata.odd, odd);
+        let even = UplinkPayload { metadata: UplinkMetadata { odd: 0, ..u.metadata }, ..*u };
+        for hop_count in 1..=8 {
+            let mut edited = b.clone();
+            set_hop_count(&mut edited, hop_count, &key).unwrap();
+            assert_eq!(edited[1..edited.len() - 4], frame[1..frame.len() - 4]);
+            let q = MeshPacket::from_slice(&edited).unwrap();
+            assert_eq!(q.payload, Payload::Uplink(even));
+            assert_eq!((q.mhdr.hop_count, q.validate_mic(&key)), (hop_count, Ok(true)));
+        }
+        // A refused edit leaves them.
+        let before = b.clone();
+        assert_eq!(set_hop_count(&mut b, 9, &key), Err(Refusal::HopsMany));
+        assert_eq!(b, before);
+    }
 }
 
 #[test]
 fn items_alone() {
-    let path = [RelayPath { relay_id: RelayId([1, 2, 3, 4]), rssi: -255, snr: -1 }; 43];
+    let path = [RelayPath { relay_id: RelayId([1, 2, 3, 4]), rssi: -255, snr: -1, odd: 0 }; 43];
     let beat = Event::Heartbeat(path[..1].to_vec());
     assert_eq!(beat.encode(), Ok(vec![0, 6, 1, 2, 3, 4, 255, 0x3f]));
     assert_eq!(Event::Heartbeat(vec![]).encode(), Ok(vec![0, 0]));

@@ -21,7 +21,7 @@ fn uplink(hop_count: u8, uplink_id: u16, last: u8) -> Vec<u8> {
     signed(MeshPacket {
         mhdr: Header { payload_type: PayloadType::Uplink, hop_count },
         payload: Payload::Uplink(UplinkPayload {
-            metadata: UplinkMetadata { uplink_id, dr: 5, rssi: -80, snr: 7, channel: 2 },
+            metadata: UplinkMetadata { uplink_id, dr: 5, rssi: -80, snr: 7, channel: 2, odd: 0 },
             relay_id: RelayId([0x0a, 0x0b, 0x0c, last]),
             phy_payload: &[0x40, 1, 2, 3, 4],
         }),
@@ -35,8 +35,8 @@ fn frames() {
     let last = forged.len() - 1;
     forged[last] ^= 1;
     let path = vec![
-        RelayPath { relay_id: RelayId([0x0a, 0x0b, 0x0c, 0x0d]), rssi: -90, snr: -3 },
-        RelayPath { relay_id: RelayId([0x0a, 0x0b, 0x0c, 0x1d]), rssi: -101, snr: 4 },
+        RelayPath { relay_id: RelayId([0x0a, 0x0b, 0x0c, 0x0d]), rssi: -90, snr: -3, odd: 0 },
+        RelayPath { relay_id: RelayId([0x0a, 0x0b, 0x0c, 0x1d]), rssi: -101, snr: 4, odd: 0 },
     ];
     let event = signed(MeshPacket {
         mhdr: Header { payload_type: PayloadType::Event, hop_count: 2 },

@@ -42,6 +42,7 @@ struct P {
     content: u64,
     start: u64,
     len: u64,
+    odd: u64,
     rssi: i16,
     snr: i8,
 }
@@ -66,12 +67,13 @@ fn numbers(p: &P) -> Numbers {
         p.content,
         p.start,
         p.len,
+        p.odd,
     ]
 }
 
 fn of(n: Numbers, rssi: i16, snr: i8) -> P {
     let [kind, payload_type, hop_count, has_mic, mic, relay_id, uplink_id, dr, rest @ ..] = n;
-    let [channel, frequency, tx_power, delay, timestamp, content, start, len] = rest;
+    let [channel, frequency, tx_power, delay, timestamp, content, start, len, odd] = rest;
     P {
         kind,
         payload_type,
@@ -89,6 +91,7 @@ fn of(n: Numbers, rssi: i16, snr: i8) -> P {
         content,
         start,
         len,
+        odd,
         rssi,
         snr,
     }
@@ -115,6 +118,7 @@ const fn good(kind: u64) -> P {
         content: 0,
         start: 0,
         len: 0,
+        odd: 0,
     }
 }
 
@@ -345,7 +349,7 @@ fn reading() {
     for len in 1..=4 {
         assert_eq!(read(&frame(0xe0, len)), unread(2));
         assert_eq!(read_mesh(&frame(0x40, len)), unread(2));
-        assert_eq!(read(&frame(0x40, len)).1[13..], [0, 0, len as u64]);
+        assert_eq!(read(&frame(0x40, len)).1[13..], [0, 0, len as u64, 0]);
     }
     assert_eq!(read_mesh(&frame(0xdf, 5)), unread(3));
     assert_eq!(read_mesh(&frame(0x40, 8192)), unread(3));
@@ -362,7 +366,7 @@ fn reading() {
             assert_eq!((number, n[0], n[1], n[2], n[3]), (0, kind, kind, 8, 1));
             let content = if kind < 2 || len == least { 0 } else { SEALED };
             let at = if kind >= 2 && len == least { 0 } else { start };
-            assert_eq!(n[13..], [content, at, (len - least) as u64]);
+            assert_eq!(n[13..], [content, at, (len - least) as u64, 0]);
         }
     }
 }
@@ -381,6 +385,57 @@ fn reading_bodies() {
         for len in [least, 8187] {
             let (number, n, ..) = read_body(kind, &frame(0, len));
             assert_eq!((number, n[0], n[2], n[3], n[15]), (0, kind, 0, 0, (len - least) as u64));
+        }
+    }
+}
+
+/// Every snr byte, beside bytes that have these two bits set, and not, themselves. Of what is no uplink there are no odd bits.
+#[test]
+fn odd_bits() {
+    for b in 0..=255 {
+        let (odd, snr) = (b / 64, (b << 2) as i8 >> 2);
+        for n in [0, 0x40, 0x80, 0xff] {
+            let rssi = -i16::from(n);
+            for kind in [UPLINK, DOWNLINK, EVENT, COMMAND, LORA] {
+                let mut frame = [n; 20];
+                (frame[0], frame[4]) = (if kind == LORA { 0x40 } else { 0xe0 | (kind as u8) << 3 }, b);
+                let mut even = frame;
+                if kind == UPLINK {
+                    even[4] %= 64;
+                }
+                let told = |r: Read| of(r.1, r.2, r.3);
+                let p = told(read(&frame));
+                let expected = if kind == UPLINK { (u64::from(odd), rssi, snr) } else { (0, 0, 0) };
+                assert_eq!((p.kind, (p.odd, p.rssi, p.snr)), (kind, expected));
+                assert_eq!(P { odd: 0, ..p }, told(read(&even)));
+                assert_eq!(write(&p, &framed(&frame), 20).unwrap(), even);
+                if kind == LORA {
+                    continue;
+                }
+                assert_eq!(p, told(read_mesh(&frame)));
+                let body = told(read_body(kind, &frame[1..16]));
+                assert_eq!((body.odd, body.rssi, body.snr), expected);
+                assert_eq!(write_body(&p, &framed(&frame), 20).unwrap(), even[1..16]);
+                // The MIC is over bytes that have them 0.
+                let mic = sign(&p, &KEY, &framed(&frame)).unwrap();
+                assert_eq!(sign(&P { odd: 0, ..p }, &KEY, &framed(&frame)), Ok(mic));
+                assert_eq!(validate(&P { mic, ..p }, &KEY, &framed(&frame)), Ok(1));
+                assert_eq!(set_hop_count(&KEY, &mut frame, 8), 0);
+                assert_eq!(frame[1..16], even[1..16]);
+                let edited = told(read(&frame));
+                assert_eq!(edited, P { hop_count: 8, mic: edited.mic, odd: 0, ..p });
+            }
+            let (mut m, mut r, mut s) = ([77; 4], 77, 77);
+            unsafe { sys::mesh_uplink_metadata_read(&[n, n, n, b, n], &mut m, &mut r, &mut s) };
+            let wide = u64::from(n);
+            assert_eq!((m, r, s), ([wide << 4 | wide >> 4, wide & 15, wide, u64::from(odd)], rssi, snr));
+            let (mut id, mut r, mut s, mut o) = (77, 77, 77, 77);
+            unsafe { sys::mesh_path_read(&[n, n, n, n, n, b], &mut id, &mut r, &mut s, &mut o) };
+            assert_eq!((id, r, s, o), (u32::from_be_bytes([n; 4]), rssi, snr, odd));
+            let value = [n, n, n, n, n, !b, n, n, n, n, n, b];
+            let (mut id, mut r, mut s, mut o) = (77, 77, 77, 77);
+            assert_eq!(unsafe { sys::mesh_heartbeat_entry(value.as_ptr(), 12, 1, &mut id, &mut r, &mut s, &mut o) }, 0);
+            assert_eq!((id, r, s, o), (u32::from_be_bytes([n; 4]), rssi, snr, odd));
         }
     }
 }
@@ -657,6 +712,9 @@ fn kinds_that_are_none() {
 /// Numbers that are wider than 32 bits. The low bits of the first two are good ones.
 const WIDE: [u64; 4] = [1 << 32, (1 << 32) + 1, 1 << 63, u64::MAX];
 
+/// Numbers of odd bits: those that are read, and others, whose low bits are such.
+const ODD: [u64; 14] = [0, 1, 2, 3, 4, 5, 255, 256, 257, 259, 1 << 32, (1 << 32) + 1, (1 << 32) + 3, u64::MAX];
+
 /// What every call answers of a packet.
 fn answers(p: &P, frame: &[u8]) -> impl PartialEq + std::fmt::Debug {
     let l = framed(frame);
@@ -712,6 +770,10 @@ fn numbers_that_are_wide() {
             // Any number but 0 is a MIC's.
             for has_mic in WIDE.into_iter().chain([2]) {
                 assert_eq!(answers(&P { has_mic, ..p }, &three), answers(&P { has_mic: 1, ..p }, &three));
+            }
+            // Any number of odd bits is taken, and changes nothing.
+            for odd in ODD {
+                assert_eq!(answers(&P { odd, ..p }, &three), answers(&p, &three));
             }
         }
     }
@@ -771,7 +833,7 @@ fn bodies_that_are_none() {
 /// The items that reading lists, lent back as they were read, are written, sealed and signed as the open payload itself is.
 #[test]
 fn lent_back() {
-    // A heartbeat with ignored bits, others of tags 0 and not, one that an event skips, and a cut tail.
+    // A heartbeat with odd bits, others of tags 0 and not, one that an event skips, and a cut tail.
     let payload = [0, 6, 1, 2, 3, 4, 80, 0xc7, 1, 2, 0xaa, 0xbb, 0, 5, 1, 2, 3, 4, 5, 0, 0, 255, 1, 7, 3, 9, 0xcc];
     for kind in [EVENT, COMMAND] {
         let (mut kinds, mut spans, mut at) = (vec![], vec![], 0);
@@ -948,7 +1010,7 @@ fn items_alone() {
         assert_eq!(item_write(is_event, PROPRIETARY, 0, &value[..256], 0), Err(19));
         assert_eq!(item_write(is_event, PROPRIETARY, 0, &value[..5], 0), Err(if is_event { 20 } else { 21 }));
     }
-    // A heartbeat has tag 0 and no ignored bits; in a command the same bytes are a value.
+    // A heartbeat has tag 0 and no odd bits; in a command the same bytes are a value.
     let six = [1, 2, 3, 4, 5, 0xff];
     assert_eq!(item_write(true, HEARTBEAT, 9, &six, 8).unwrap(), [0, 6, 1, 2, 3, 4, 5, 0x3f]);
     assert_eq!(item_write(true, PROPRIETARY, 0, &six, 8).unwrap(), [0, 6, 1, 2, 3, 4, 5, 0x3f]);
@@ -1009,11 +1071,11 @@ fn heartbeats() {
     assert_eq!(entries(0, 0), Ok(0));
 
     let entry = |len: usize, i: u64| {
-        let (mut id, mut rssi, mut snr) = (77, 77, 77);
-        match unsafe { sys::mesh_heartbeat_entry(value.as_ptr(), len, i, &mut id, &mut rssi, &mut snr) } {
-            0 => Ok((id, rssi, snr)),
+        let (mut id, mut rssi, mut snr, mut odd) = (77, 77, 77, 77);
+        match unsafe { sys::mesh_heartbeat_entry(value.as_ptr(), len, i, &mut id, &mut rssi, &mut snr, &mut odd) } {
+            0 => Ok((id, rssi, snr, odd)),
             r => {
-                assert_eq!((id, rssi, snr), (77, 77, 77));
+                assert_eq!((id, rssi, snr, odd), (77, 77, 77, 77));
                 Err(r)
             }
         }
@@ -1037,9 +1099,10 @@ fn heartbeats() {
     assert_eq!(entry(252, 42), Err(45));
     for i in 0..42 {
         let b: [u8; 6] = value[6 * i..6 * i + 6].try_into().unwrap();
-        let (mut id, mut rssi, mut snr) = (0, 0, 0);
-        unsafe { sys::mesh_path_read(&b, &mut id, &mut rssi, &mut snr) };
-        assert_eq!(entry(252, i as u64), Ok((id, rssi, snr)));
+        let (mut id, mut rssi, mut snr, mut odd) = (77, 77, 77, 77);
+        unsafe { sys::mesh_path_read(&b, &mut id, &mut rssi, &mut snr, &mut odd) };
+        assert_eq!(odd, b[5] / 64);
+        assert_eq!(entry(252, i as u64), Ok((id, rssi, snr, odd)));
     }
 }
 
@@ -1103,9 +1166,9 @@ fn metadata() {
         let number = unsafe { sys::mesh_uplink_metadata_write(uplink_id, dr, rssi, snr, 255, &mut b) };
         assert!(number == 0 || b == [BEFORE; 5]);
         if number == 0 {
-            let (mut n, mut r, mut s) = ([77; 3], 77, 77);
+            let (mut n, mut r, mut s) = ([77; 4], 77, 77);
             unsafe { sys::mesh_uplink_metadata_read(&b, &mut n, &mut r, &mut s) };
-            assert_eq!((n, r, s), ([uplink_id as u64, dr as u64, 255], rssi, snr));
+            assert_eq!((n, r, s), ([uplink_id as u64, dr as u64, 255, 0], rssi, snr));
         }
         number
     };
@@ -1181,9 +1244,9 @@ fn path_entries() {
         assert_eq!(unsafe { sys::mesh_path_write(u32::MAX, rssi, snr, &mut b) }, number);
         assert!(number == 0 || b == [BEFORE; 6]);
         if number == 0 {
-            let (mut id, mut r, mut s) = (77, 77, 77);
-            unsafe { sys::mesh_path_read(&b, &mut id, &mut r, &mut s) };
-            assert_eq!((id, r, s), (u32::MAX, rssi, snr));
+            let (mut id, mut r, mut s, mut odd) = (77, 77, 77, 77);
+            unsafe { sys::mesh_path_read(&b, &mut id, &mut r, &mut s, &mut odd) };
+            assert_eq!((id, r, s, odd), (u32::MAX, rssi, snr, 0));
         }
     }
 }
@@ -1376,6 +1439,9 @@ fn dumps() {
     };
     for (input, text) in [
         ("e012355007020a0b0c0d11223344", "[Uplink hop_count: 1, uplink_id: 291, relay_id: 0a0b0c0d, mic: 11223344]"),
+        ("e012355047020a0b0c0d11223344", "[Uplink hop_count: 1, uplink_id: 291, relay_id: 0a0b0c0d, mic: 11223344 odd: 1]"),
+        ("e012355087020a0b0c0d11223344", "[Uplink hop_count: 1, uplink_id: 291, relay_id: 0a0b0c0d, mic: 11223344 odd: 2]"),
+        ("e0123550C7020a0b0c0d11223344", "[Uplink hop_count: 1, uplink_id: 291, relay_id: 0a0b0c0d, mic: 11223344 odd: 3]"),
         ("F20000003c0a0b0c0d01020304", "[Event hop_count: 3, timestamp: 60, relay_id: 0a0b0c0d]"),
         ("40", "lora 1"),
         ("e0", "refused 2"),
@@ -1425,6 +1491,14 @@ fn texts() {
             let p = P { hop_count, start: u64::MAX, len: u64::MAX, ..p };
             assert_eq!(text(&p, 99).unwrap(), shown.replace("hop_count: 1,", said).as_bytes());
         }
+        // Odd bits are shown of an uplink, 1 to 3; what is more, also in a byte's width, is not.
+        for odd in ODD {
+            let p = P { odd, ..p };
+            let said = if kind == UPLINK && (1..4).contains(&odd) { shown.replace(']', &format!(" odd: {odd}]")) } else { shown.into() };
+            assert_eq!(text(&p, 99).unwrap(), said.as_bytes());
+            assert_eq!(text(&p, said.len()).unwrap(), said.as_bytes());
+            assert_eq!(text(&p, said.len() - 1), Err(21));
+        }
         // The label goes by the header, the fields by the payload.
         let other = P { payload_type: 3 - kind, ..p };
         assert!(text(&other, 99).unwrap().starts_with(shown_label(3 - kind)));
@@ -1435,6 +1509,8 @@ fn texts() {
     assert_eq!(text(&good(LORA), 99), Err(29));
     let longest = P { uplink_id: 65535, hop_count: 255, mic: u32::MAX.into(), relay_id: u32::MAX.into(), ..good(DOWNLINK) };
     assert_eq!(text(&longest, 90).unwrap(), b"[Downlink hop_count: 255, uplink_id: 65535, relay_id: ffffffff, mic: ffffffff]");
+    let longest = P { kind: UPLINK, odd: 3, ..longest };
+    assert_eq!(text(&longest, 90).unwrap(), b"[Downlink hop_count: 255, uplink_id: 65535, relay_id: ffffffff, mic: ffffffff odd: 3]");
 }
 
 fn shown_label(type_: u64) -> &'static [u8] {

@@ -13,7 +13,7 @@ fn uplink(uplink_id: u16, relay_id: [u8; 4]) -> Vec<u8> {
     let mut packet = MeshPacket {
         mhdr: Header { payload_type: PayloadType::Uplink, hop_count: 1 },
         payload: Payload::Uplink(UplinkPayload {
-            metadata: UplinkMetadata { uplink_id, dr: 0, rssi: 0, snr: 0, channel: 0 },
+            metadata: UplinkMetadata { uplink_id, dr: 0, rssi: 0, snr: 0, channel: 0, odd: 0 },
             relay_id: RelayId(relay_id),
             phy_payload: &[1, 2, 3],
         }),
@@ -67,7 +67,7 @@ fn new_and_duplicate() {
 fn opened() {
     let keys = keys();
     let mut cache = Cache::new(2).unwrap();
-    let path = vec![RelayPath { relay_id: RelayId([9, 9, 9, 9]), rssi: -3, snr: 4 }];
+    let path = vec![RelayPath { relay_id: RelayId([9, 9, 9, 9]), rssi: -3, snr: 4, odd: 0 }];
     let items = vec![Item::Heartbeat(path), Item::Proprietary(130, vec![1, 2])];
     let frame = event(60, items.clone());
     // Too short a work buffer: nothing has changed, and the frame can be received again.
@@ -96,7 +96,7 @@ fn opened() {
 #[test]
 fn over_more_hops() {
     let keys = keys();
-    let path = vec![RelayPath { relay_id: RelayId([9, 9, 9, 9]), rssi: -3, snr: 4 }];
+    let path = vec![RelayPath { relay_id: RelayId([9, 9, 9, 9]), rssi: -3, snr: 4, odd: 0 }];
     let frame = event(60, vec![Item::Heartbeat(path), Item::Proprietary(130, vec![1, 2])]);
     let look = |frame: &[u8]| {
         let mut packet = MeshPacket::from_slice(frame).unwrap();
@@ -131,15 +131,16 @@ fn not_valid() {
             for bit in 0..8 {
                 let mut forged = frame.clone();
                 forged[i] ^= 1 << bit;
-                let ignored = forged[0] == 0xe0 && i == 4 && bit >= 6;
+                let odd = forged[0] == 0xe0 && i == 4 && bit >= 6;
                 let mut work = [BEFORE; 20];
                 let mut tried = cache.clone();
                 let got = receive(&forged, &keys, &mut tried, &mut work);
                 if i == 0 && bit >= 5 {
                     assert_eq!(got, Ok(Received::Lora(&forged)));
-                } else if ignored {
-                    // The two bits of an uplink's snr that are written as 0 are not signed.
-                    assert!(matches!(got, Ok(Received::New { .. })));
+                } else if odd {
+                    // The odd bits of an uplink's snr are not signed: it is valid with any, and they are told.
+                    let Ok(Received::New { packet: MeshPacket { payload: Payload::Uplink(p), .. }, .. }) = got else { panic!() };
+                    assert_eq!(p.metadata.odd, 1 << (bit - 6));
                     continue;
                 } else if i == 0 && bit >= 3 && forged.len() < 15 {
                     assert!(got.is_err());

@@ -9,7 +9,9 @@ fn relay_id(g: &mut Lcg) -> RelayId {
 }
 
 fn path(g: &mut Lcg, most: u32) -> Vec<RelayPath> {
-    (0..g.to(most)).map(|_| RelayPath { relay_id: relay_id(g), rssi: -(g.to(255) as i16), snr: g.to(63) as i8 - 32 }).collect()
+    let entries = 0..g.to(most);
+    let entry = |_| RelayPath { relay_id: relay_id(g), rssi: -(g.to(255) as i16), snr: g.to(63) as i8 - 32, odd: g.to(255) as u8 };
+    entries.map(entry).collect()
 }
 
 fn value(g: &mut Lcg) -> Vec<u8> {
@@ -39,6 +41,7 @@ fn payload<'a>(g: &mut Lcg, bytes: &'a [u8]) -> Payload<'a> {
                 rssi: -(g.to(255) as i16),
                 snr: g.to(63) as i8 - 32,
                 channel: g.to(255) as u8,
+                odd: g.to(255) as u8,
             },
             relay_id,
             phy_payload: bytes,
@@ -76,6 +79,23 @@ fn type_of(p: &Payload) -> PayloadType {
     }
 }
 
+/// As it is read back: odd bits are taken, whatever they are, and none are written.
+fn even<'a>(p: &Payload<'a>) -> Payload<'a> {
+    let mut p = p.clone();
+    match &mut p {
+        Payload::Uplink(u) => u.metadata.odd = 0,
+        Payload::Event(EventPayload { events: Content::Items(items), .. }) => {
+            for item in items {
+                if let Item::Heartbeat(path) = item {
+                    path.iter_mut().for_each(|entry| entry.odd = 0);
+                }
+            }
+        }
+        _ => {}
+    }
+    p
+}
+
 fn body_of(p: &Payload) -> Vec<u8> {
     match p {
         Payload::Uplink(p) => p.to_vec(),
@@ -103,8 +123,12 @@ fn packets() {
         sent.set_mic(&keys.signing).expect("signed");
         let frame = sent.to_vec().expect("written");
         assert_eq!(frame[1..frame.len() - 4], body_of(&sent.payload));
+        assert_eq!(sent.validate_mic(&keys.signing), Ok(true));
+        assert_eq!(body_of(&even(&clear.payload)), body_of(&clear.payload));
+        let clear = MeshPacket { payload: even(&clear.payload), ..clear };
 
-        // Read, it is the packet that was sent: a payload of no items is read as empty.
+        // Read, it is the packet that was sent, without odd bits: a payload of no items is read as empty.
+        sent.payload = even(&sent.payload);
         let mut read = MeshPacket::from_slice(&frame).expect("read");
         let none = |p: &Payload| match p {
             Payload::Event(p) => matches!(&p.events, Content::Items(i) if i.is_empty()),
@@ -184,6 +208,10 @@ fn any_bytes() {
                 *first |= 0xe0;
             }
         }
+        // A heartbeat, where it is an event's payload.
+        if len > 16 && g.to(3) == 0 {
+            (b[9], b[10]) = (0, 6 * g.to(2) as u8);
+        }
         let text = dump_frame_text(&b).expect("text");
         match Packet::from_slice(&b) {
             Ok(Packet::Lora(lora)) => {
@@ -193,11 +221,15 @@ fn any_bytes() {
             }
             Ok(Packet::Mesh(mut p)) => {
                 assert_eq!(MeshPacket::from_slice(&b), Ok(p.clone()));
-                // The two ignored bits of an uplink's snr are written as 0.
+                assert_eq!(p.to_string(), text);
+                // The odd bits of an uplink's snr are told and shown, and written as 0.
                 let mut expected = b.clone();
-                if let Payload::Uplink(_) = p.payload {
+                if let Payload::Uplink(u) = &p.payload {
+                    assert_eq!(u.metadata.odd, b[4] / 64);
+                    assert_eq!(text.ends_with(&format!(" odd: {}]", b[4] / 64)), b[4] > 63);
                     expected[4] &= 0x3f;
                 }
+                assert_eq!(text.contains("odd"), expected != b);
                 assert_eq!(p.to_vec(), Ok(expected));
                 let was_empty = matches!(&p.payload, Payload::Event(e) if e.events == Content::Empty)
                     || matches!(&p.payload, Payload::Command(c) if c.commands == Content::Empty)
@@ -223,6 +255,17 @@ fn any_bytes() {
                     assert_eq!(items.opening(), opening);
                     assert_eq!(items.clone().filter(|f| matches!(f, Found::Kept(_))).count(), opening.kept);
                     assert_eq!(items.clone().filter(|f| matches!(f, Found::Skipped(_))).count(), opening.skipped);
+                    // Each entry of a path tells its own, and any keeps the payload from being clean.
+                    let mut odd = 0;
+                    for found in items.clone() {
+                        if let Found::Kept(Kept::Heartbeat(h)) = found {
+                            for (entry, six) in h.relay_path().iter().zip(h.as_slice().chunks(6)) {
+                                assert_eq!(entry.odd, six[5] / 64);
+                                odd |= entry.odd;
+                            }
+                        }
+                    }
+                    assert_eq!(opening.clean, opening.skipped == 0 && opening.cut_bytes == 0 && odd == 0);
                     let cut: usize = items.filter_map(|f| if let Found::Cut(c) = f { Some(c.len()) } else { None }).sum();
                     assert_eq!(cut, opening.cut_bytes);
                     let written = p.to_vec().expect("written");

@@ -6,14 +6,14 @@ use lemikanto::*;
 
 #[test]
 fn p1_to_p3_uplink_metadata() {
-    let p1 = UplinkMetadata { uplink_id: 291, dr: 5, rssi: -80, snr: 7, channel: 2 };
+    let p1 = UplinkMetadata { uplink_id: 291, dr: 5, rssi: -80, snr: 7, channel: 2, odd: 0 };
     assert_eq!(UplinkMetadata::from_bytes([0x12, 0x35, 0x50, 0x07, 0x02]), p1);
     assert_eq!(p1.to_bytes(), Ok([0x12, 0x35, 0x50, 0x07, 0x02]));
-    let p2 = UplinkMetadata { uplink_id: 4095, dr: 15, rssi: -255, snr: -32, channel: 255 };
+    let p2 = UplinkMetadata { uplink_id: 4095, dr: 15, rssi: -255, snr: -32, channel: 255, odd: 0 };
     assert_eq!(UplinkMetadata::from_bytes([0xff, 0xff, 0xff, 0x20, 0xff]), p2);
     assert_eq!(p2.to_bytes(), Ok([0xff, 0xff, 0xff, 0x20, 0xff]));
     let p3 = UplinkMetadata::from_bytes([0, 0, 0, 0xff, 0]);
-    assert_eq!(p3.snr, -1);
+    assert_eq!(p3, UplinkMetadata { uplink_id: 0, dr: 0, rssi: 0, snr: -1, channel: 0, odd: 3 });
     assert_eq!(p3.to_bytes().unwrap()[3], 0x3f);
 }
 

@@ -191,7 +191,7 @@ module _ (ev : Bool) (s : List ℕ) (small : Bytes s) where
   unfolding composedBytes listedItems openBytes
   bytes-are = ap (joined (itemWire ev (l ev s))) (all-items ev s d) ∙ bytes-by ev s small (l ev s) refl (length s) 0 (omega arith)
 
-  -- nothing is refused, and the bytes are those of the kept items with their ignored bits cleared
+  -- nothing is refused, and the bytes are those of the kept items with their odd bits cleared
   pub written-back : composedWire ev (lentBack ev s) (length (listedItems ev s)) ≡ bytes (openBytes ev s)
   unfolding composedWire lentBack
   written-back = sym (not-refused (verdictOf ev (l ev s) (length (L ev s))) (bytes (composedBytes ev (l ev s) (length (L ev s)))) fine) ∙ ap bytes bytes-are

@@ -163,7 +163,7 @@ module _ (ev : Bool) (s : List ℕ) (small : Bytes s) (at : ℕ) (i : Item) (nx 
   unfolding runRefusal
   long = let h = lies in part-all s (at + 2) n h
 
-  -- tag, length and value as they were read, but for the ignored bits of a heartbeat
+  -- tag, length and value as they were read, but for the odd bits of a heartbeat
   pub read-encoded : encodedOf ev i s ≡ bytes (itemBytes (isBeat ev (i .tag)) (i .tag) (runBytes s (i .value)))
   unfolding encodedOf kindOf
   read-encoded =

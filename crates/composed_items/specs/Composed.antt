@@ -89,7 +89,7 @@ verdictOf ev l n =
 
 -- ---- their bytes
 
--- a path's entries, or the bytes of a value with a heartbeat's ignored bits cleared
+-- a path's entries, or the bytes of a value with a heartbeat's odd bits cleared
 unfoldable pub valueOf : Bool → Lists → Composed → List ℕ
 valueOf ev l it =
     pick (isPath ev it) (joined sixOf (pathRun (l .entries) (it .place) (it .len)))

@@ -29,7 +29,7 @@ oneRefusal ev kind tag n =
     (pick (ltb itemMost n) itemLong
     (pick (badBeat ev (tagOf kind tag) n) heartbeatLength 0))
 
--- tag, length and value, a heartbeat's ignored bits cleared
+-- tag, length and value, a heartbeat's odd bits cleared
 unfoldable pub oneWire : Bool → ℕ → ℕ → List ℕ → Writing
 oneWire ev kind tag v =
     unlessRefused (oneRefusal ev kind tag (length v)) (bytes (itemBytes (isBeat ev (tagOf kind tag)) (tagOf kind tag) v))

@@ -11,6 +11,7 @@ use lib.Seq.{getD-take, getD-drop, getD-set-same, getD-set-other}
 use borrow.Author.Tests.{ltb-false, leb-false, eq-eqb, eqb-true, eqb-false}
 use Rattle.base.specs.Lists.{Bytes}
 use Rattle.wire.specs.Number.{beBytes}
+use Rattle.fields.specs.Signal.{evenByte}
 use Rattle.fields.specs.Header.{codeOf, headerByte}
 use Rattle.fields.specs.declared.header.HeaderByte.the-variants.{Byte}
 use Rattle.fields.specs.declared.header.PayloadType.{PayloadType}
@@ -20,10 +21,10 @@ use Rattle.packets.specs.Read.{bodyIn, meshOf}
 use Rattle.packets.specs.declared.mesh.MeshPacket.{MeshPacket}
 use Rattle.packets.specs.declared.mesh.MeshRead.the-variants.{Mesh}
 use Rattle.round_trips.proofs.Again.{was-read}
-use Rattle.round_trips.proofs.Same.{kind-is}
+use Rattle.round_trips.proofs.Same.{kind-is, clearedOf}
 use Rattle.hops.specs.Hops.{carryingCount}
 use Rattle.demand.specs.Demand.{bitOf, mayDiffer, Edit}
-use Rattle.demand.proofs.Edited.{clearedOf, least-of, found, newBody, body-long, newMic, newFrame}
+use Rattle.demand.proofs.Edited.{least-of, found, newBody, body-long, newMic, newFrame}
 
 -- ---- what `mayDiffer` says no to
 
@@ -80,10 +81,10 @@ low x (suc (suc (suc (suc (suc (suc i)))))) h = absurd (omega arith)
 module _ (b : List ℕ) (least : 8 ≤ length b) (j i : ℕ) where
   up-bit : (t : Bool) → eqb j 3 ≡ t → (j ≡ 3 → i < 6) → bitOf (clearedOf Uplink b) j i ≡ bitOf b j i
   up-bit true e h =
-      let v = getD b 3 0 % 64 in
+      let v = evenByte (getD b 3 0) in
       let z : j ≡ 3 = eqb-true j 3 e in
       rw z (ap (λ (m : ℕ). m / 2 ^ i % 2) (getD-set-same b 3 v 0 (omega arith)) ∙ low (getD b 3 0) i (h z))
-  up-bit false e h = ap (λ (m : ℕ). m / 2 ^ i % 2) (getD-set-other b 3 j (getD b 3 0 % 64) 0 (eqb-false j 3 e))
+  up-bit false e h = ap (λ (m : ℕ). m / 2 ^ i % 2) (getD-set-other b 3 j (evenByte (getD b 3 0)) 0 (eqb-false j 3 e))
 
   body-bit : (t : PayloadType) → (codeOf t ≡ 0 → j ≡ 3 → i < 6) → bitOf (clearedOf t b) j i ≡ bitOf b j i
   body-bit Uplink h = up-bit (eqb j 3) refl (h refl)

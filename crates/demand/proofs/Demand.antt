@@ -2,7 +2,7 @@
 use Prim.Native.Nat.{ℕ, _+_, _-_, _*_, _≤_, _<_}
 use native.Mathlib.Omega.{arith}
 use mathlib.Core.Bool.{false}
-use mathlib.Core.Path.{_≡_, sym, ap, ap₂, _∙_}
+use mathlib.Core.Path.{_≡_, refl, sym, ap, ap₂, _∙_}
 use mathlib.Core.List.{List, foldl}
 use mathlib.Core.Option.{none}
 use lib.ListN.{length}
@@ -14,12 +14,15 @@ use Rattle.wire.specs.Run.{runBytes}
 use Rattle.fips197.specs.Aes.{aes}
 use Rattle.fields.specs.Header.{codeOf, headerByte}
 use Rattle.fields.specs.declared.header.HeaderByte.the-variants.{Byte}
-use Rattle.packets.specs.Read.{bodyIn, meshOf}
+use Rattle.fields.specs.declared.header.PayloadType.{PayloadType}
+use Rattle.packets.specs.Read.{bodyIn, meshOf, evenPayload, evenMesh}
 use Rattle.packets.specs.Write.{meshFrame}
+use Rattle.packets.specs.declared.mesh.Payload.{Payload}
+use Rattle.packets.specs.declared.mesh.Payload.the-variants.{Uplink, Downlink, Event, Command}
 use Rattle.packets.specs.declared.mesh.MeshPacket.{MeshPacket}
 use Rattle.packets.specs.declared.mesh.MeshRead.the-variants.{Mesh, Refused}
 use Rattle.sealing.specs.Mesh.{meshDecrypted, meshWork, meshDecoded}
-use Rattle.cache.specs.Cache.{recordOf}
+use Rattle.cache.specs.Cache.{recordBy, recordOf}
 use Rattle.mic.specs.Mic.{setMic, validateMic}
 use Rattle.mic.specs.declared.Validated.the-variants.{Valid}
 use Rattle.hops.specs.Hops.{alone, carryingCount, leaves}
@@ -32,13 +35,20 @@ use Rattle.demand.proofs.Several.{from-one}
 
 -- ---- a. What reading, setting the count, signing and writing afresh gives; and the first refusal of these, which leaves the buffer.
 
--- the packet is signed, and written that is what the edit answers and leaves; the buffer then reads as that packet
+-- the packet is signed, and written that is what the edit answers and leaves; the buffer then reads as that packet without odd bits
 pub record Afresh (s : List ℕ) (p : MeshPacket) (e : Edit) : Type 0 where
   pub packet : MeshPacket
   pub signed : setMic (aes (e .key)) (alone s) (carryingCount p (e .count)) ≡ Mesh packet
   pub written : meshFrame (alone s) packet ≡ bytes (after s e)
   pub answer : edited s e ≡ bytes (after s e)
-  pub read : meshOf (after s e) ≡ Mesh packet
+  pub read : meshOf (after s e) ≡ Mesh (evenMesh packet)
+
+-- the duplicate record does not look at the odd bits
+even-record : (t : PayloadType) (q : Payload) → recordBy t (evenPayload q) ≡ recordBy t q
+even-record t (Uplink u) = refl
+even-record t (Downlink u) = refl
+even-record t (Event u) = refl
+even-record t (Command u) = refl
 
 module _ (s : List ℕ) (e : Edit) where
   pub unread : (n : ℕ) → meshOf s ≡ Refused n → edited s e ≡ refused n
@@ -80,7 +90,7 @@ module _ (s : List ℕ) (p : MeshPacket) (small : Bytes s) (read : meshOf s ≡ 
   is : after s e ≡ W
   is = ap (λ (f : Writing). leaves f s) answers
 
-  holds : meshOf (after s e) ≡ Mesh Q
+  holds : meshOf (after s e) ≡ Mesh (evenMesh Q)
   holds = ap meshOf is ∙ read-gives s p small read e v byte
 
   pub afresh : Afresh s p e
@@ -93,7 +103,7 @@ module _ (s : List ℕ) (p : MeshPacket) (small : Bytes s) (read : meshOf s ≡ 
         read = holds;
       }
 
-  -- ---- b. As long as before, and no bit differs but the count's, the MIC's and an uplink's two ignored ones.
+  -- ---- b. As long as before, and no bit differs but the count's, the MIC's and an uplink's odd ones.
 
   pub same-length : length (after s e) ≡ length s
   same-length = ap length is ∙ new-long s p small read e v byte
@@ -103,8 +113,8 @@ module _ (s : List ℕ) (p : MeshPacket) (small : Bytes s) (read : meshOf s ≡ 
 
   -- the packet that is then read
   module _ (r : MeshPacket) (again : meshOf (after s e) ≡ Mesh r) where
-    r-is : r ≡ Q
-    r-is = let h : Mesh r ≡ Mesh Q = sym again ∙ holds in cc
+    r-is : r ≡ evenMesh Q
+    r-is = let h : Mesh r ≡ Mesh (evenMesh Q) = sym again ∙ holds in cc
 
     -- ---- c. It validates.
 
@@ -115,11 +125,11 @@ module _ (s : List ℕ) (p : MeshPacket) (small : Bytes s) (read : meshOf s ≡ 
 
     pub same-record : recordOf r ≡ recordOf p
     unfolding recordOf
-    same-record = ap recordOf r-is
+    same-record = ap recordOf r-is ∙ even-record (p .mhdr .«payload_type») (p .payload)
 
-    -- ---- e. It keeps the payload, and opens to the same items, under every key, with every work buffer.
+    -- ---- e. It keeps the payload, but for the odd bits, and opens to the same items, under every key, with every work buffer.
 
-    pub same-payload : r .payload ≡ p .payload
+    pub same-payload : r .payload ≡ evenPayload (p .payload)
     same-payload = ap (λ (y : MeshPacket). y .payload) r-is
 
     lies : Lies (bodyIn s) (p .payload)

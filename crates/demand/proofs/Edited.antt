@@ -1,5 +1,5 @@
--- The frame after an accepted edit: of bytes, read as the packet that was signed, its body as the frame's but for an uplink's two ignored
--- bits. Assumes nothing.
+-- The frame after an accepted edit: of bytes, read as the packet that was signed without its odd bits, its body as the frame's without them.
+-- Assumes nothing.
 use Prim.Native.Nat.{ℕ, _-_, _%_, _≤_, _<_}
 use native.Mathlib.Omega.{arith}
 use mathlib.Core.Bool.{Bool, true, false}
@@ -23,7 +23,7 @@ use Rattle.fips197.specs.Aes.{aes}
 use Rattle.fips197.proofs.Bytes.{aes-block}
 use Rattle.cmac_chain.specs.Cmac.{tag}
 use Rattle.cmac_chain.proofs.Laws.{tag-block}
-use Rattle.fields.specs.Signal.{snrOf}
+use Rattle.fields.specs.Signal.{evenByte}
 use Rattle.fields.specs.Header.{headerByte}
 use Rattle.fields.specs.declared.header.HeaderByte.the-variants.{Byte}
 use Rattle.fields.specs.declared.header.PayloadType.{PayloadType}
@@ -48,7 +48,7 @@ use Rattle.events.specs.declared.stamped.CommandPayload.{CommandPayload}
 use Rattle.events.specs.declared.stamped.CommandRead.{CommandRead}
 use Rattle.events.specs.declared.stamped.CommandRead.the-variants.{Payload as CommandIs, Refused as NoCommand}
 use Rattle.events.proofs.Laws.{event-was, command-was}
-use Rattle.packets.specs.Read.{bodyIn, ofUplink, ofDownlink, ofEvent, ofCommand, payloadAt, meshOf}
+use Rattle.packets.specs.Read.{bodyIn, ofUplink, ofDownlink, ofEvent, ofCommand, payloadAt, meshOf, evenMesh}
 use Rattle.packets.specs.Write.{kindsIn, meshFrame}
 use Rattle.packets.proofs.Laws.{known-payload}
 use Rattle.packets.specs.declared.mesh.Payload.{Payload}
@@ -59,7 +59,8 @@ use Rattle.packets.specs.declared.mesh.MeshRead.the-variants.{Mesh}
 use Rattle.round_trips.proofs.Which.{body-length}
 use Rattle.round_trips.proofs.Trip.{readAs, frame-read}
 use Rattle.round_trips.proofs.Again.{was-read}
-use Rattle.round_trips.proofs.Same.{body-bytes, run-is, clearedBody}
+use Rattle.round_trips.proofs.Same.{body-bytes, run-is, clearedOf}
+use Rattle.round_trips.proofs.Even.{payload-even}
 use Rattle.mic.specs.Mic.{micOf, carryingMic, setMic, comparedBy, validateMic}
 use Rattle.mic.specs.declared.Validated.the-variants.{Valid}
 use Rattle.hops.specs.Hops.{alone, carryingCount, writtenOf, signedAnew, hopEdit}
@@ -67,21 +68,6 @@ use Rattle.hops.proofs.Laws.{sealedWith, C, C-length, wire-is, signed-is, set-i
 use Rattle.demand.specs.Demand.{Edit, edited}
 
 -- ---- bodies
-
--- a body with an uplink's two ignored bits as 0
-abbrev pub clearedOf : PayloadType → List ℕ → List ℕ
-clearedOf Uplink b = set b 3 (getD b 3 0 % 64)
-clearedOf Downlink b = b
-clearedOf Event b = b
-clearedOf Command b = b
-
-pub C-is : (s : List ℕ) (p : MeshPacket) (small : Bytes s) (read : meshOf s ≡ Mesh p) → C s p small read ≡ clearedOf (p .mhdr .«payload_type») (bodyIn s)
-C-is s p small read = by (p .mhdr .«payload_type») where
-  by : (t : PayloadType) → clearedBody s (was-read s p read .least) (body-bytes s small) (alone s .lists) t ≡ clearedOf t (bodyIn s)
-  by Uplink = refl
-  by Downlink = refl
-  by Event = refl
-  by Command = refl
 
 -- nothing, or the run r
 pub data Placed (r : Run) : Content → Type 0 where
@@ -148,49 +134,18 @@ least-of b _ (event u l e) = l
 least-of b _ (command u l e) = l
 
 module _ (b : List ℕ) (least : 8 ≤ length b) where
-  -- the two bits do not count when it is read
-  snr-same : (x : ℕ) → snrOf (x % 64) ≡ snrOf x
-  unfolding snrOf
-  snr-same x = let e : x % 64 % 64 ≡ x % 64 = omega arith in rw e
-
-  up-same : uplinkAt 1 (clearedOf Uplink b) ≡ uplinkAt 1 b
-  unfolding uplinkAt
-  up-same =
-      let v = getD b 3 0 % 64 in
-      let o : (i : ℕ) → (i ≡ 3 → ⊥) → getD (set b 3 v) i 0 ≡ getD b i 0 = λ i n. getD-set-other b 3 i v 0 n in
-      simp (
-        length-set,
-        o 0 (λ e. omega arith),
-        o 1 (λ e. omega arith),
-        o 2 (λ e. omega arith),
-        o 4 (λ e. omega arith),
-        o 5 (λ e. omega arith),
-        o 6 (λ e. omega arith),
-        o 7 (λ e. omega arith),
-        o 8 (λ e. omega arith),
-        getD-set-same b 3 v 0 (omega arith),
-        snr-same,
-      )
-
-  pub payload-same : (t : PayloadType) → payloadAt t (clearedOf t b) ≡ payloadAt t b
-  unfolding payloadAt
-  payload-same Uplink = ap ofUplink up-same
-  payload-same Downlink = refl
-  payload-same Event = refl
-  payload-same Command = refl
-
   -- cleared twice is cleared once
   pub cleared-twice : (t : PayloadType) → clearedOf t (clearedOf t b) ≡ clearedOf t b
   cleared-twice Uplink =
-      let v = getD b 3 0 % 64 in
-      let e : v % 64 ≡ v = omega arith in
+      let v = evenByte (getD b 3 0) in
+      let e : evenByte v ≡ v = omega arith in
       rw (getD-set-same b 3 v 0 (omega arith), e) (set-set b 3 v v)
   cleared-twice Downlink = refl
   cleared-twice Event = refl
   cleared-twice Command = refl
 
 cleared-rest : (t : PayloadType) (b : List ℕ) → drop 8 (clearedOf t b) ≡ drop 8 b
-cleared-rest Uplink b = drop-set-lt 8 b 3 (getD b 3 0 % 64) (omega arith)
+cleared-rest Uplink b = drop-set-lt 8 b 3 (evenByte (getD b 3 0)) (omega arith)
 cleared-rest Downlink b = refl
 cleared-rest Event b = refl
 cleared-rest Command b = refl
@@ -198,7 +153,7 @@ cleared-rest Command b = refl
 -- ---- bytes
 
 cleared-bytes : (t : PayloadType) (b : List ℕ) → Bytes b → Bytes (clearedOf t b)
-cleared-bytes Uplink b h = set-lt b 3 (getD b 3 0 % 64) (omega arith) h
+cleared-bytes Uplink b h = set-lt b 3 (evenByte (getD b 3 0)) (omega arith) h
 cleared-bytes Downlink b h = h
 cleared-bytes Event b h = h
 cleared-bytes Command b h = h
@@ -231,7 +186,7 @@ module _ (s : List ℕ) (p : MeshPacket) (small : Bytes s) (read : meshOf s ≡ 
   newBody = clearedOf t (bodyIn s)
 
   pub body-long : length newBody ≡ length s - 5
-  body-long = ap length (sym (C-is s p small read)) ∙ C-length s p small read
+  body-long = C-length s p small read
 
   module _ (e : Edit) (v : ℕ) (byte : headerByte (carryingCount p (e .count) .mhdr) ≡ Byte v) where
     abbrev E : List ℕ → List ℕ
@@ -248,12 +203,10 @@ module _ (s : List ℕ) (p : MeshPacket) (small : Bytes s) (read : meshOf s ≡ 
     newPacket = carryingMic (carryingCount p (e .count)) newMic
 
     pub edit-gives : edited s e ≡ bytes newFrame
-    edit-gives = edit-is s p small read v E (e .count) byte ∙ ap (λ (x : List ℕ). bytes (sealedWith E v x)) (C-is s p small read)
+    edit-gives = edit-is s p small read v E (e .count) byte
 
     pub sign-gives : setMic E (alone s) (carryingCount p (e .count)) ≡ Mesh newPacket
-    sign-gives =
-        set-is s p small read v (carryingCount p (e .count) .mhdr) (p .«has_mic») (p .mic) byte E
-        ∙ ap (λ (x : List ℕ). Mesh (carryingMic (carryingCount p (e .count)) (micOf E (v ∷ x)))) (C-is s p small read)
+    sign-gives = set-is s p small read v (carryingCount p (e .count) .mhdr) (p .«has_mic») (p .mic) byte E
 
     pub write-gives : meshFrame (alone s) newPacket ≡ bytes newFrame
     unfolding hopEdit
@@ -268,12 +221,12 @@ module _ (s : List ℕ) (p : MeshPacket) (small : Bytes s) (read : meshOf s ≡ 
     fits : length newBody ≤ 8187
     fits = let r = was-read s p read in let m = r .most in let l = body-long in omega arith
 
-    pub read-gives : meshOf newFrame ≡ Mesh newPacket
+    pub read-gives : meshOf newFrame ≡ Mesh (evenMesh newPacket)
     read-gives =
         let r = was-read s p read in
         let h = carryingCount p (e .count) .mhdr in
         frame-read v newMic newBody fits (mic-lt (e .key) (e .block) (v ∷ newBody) message-bytes) h (header-back h v byte)
-        ∙ ap (readAs h newMic) (payload-same (bodyIn s) (least-of (bodyIn s) (p .payload) found) t ∙ r .body)
+        ∙ ap (readAs h newMic) (payload-even (bodyIn s) (p .payload) t (r .body))
 
     pub new-long : length newFrame ≡ length s
     new-long =
@@ -290,19 +243,19 @@ module _ (s : List ℕ) (p : MeshPacket) (small : Bytes s) (read : meshOf s ≡ 
         take-at newBody (beBytes 4 newMic) (length newFrame - 4 - 1) l
 
     -- its body is written as it is
-    pub new-again : C newFrame newPacket new-bytes read-gives ≡ newBody
+    pub new-again : C newFrame (evenMesh newPacket) new-bytes read-gives ≡ newBody
     new-again =
-        C-is newFrame newPacket new-bytes read-gives
-        ∙ ap (clearedOf t) new-body
+        ap (clearedOf t) new-body
         ∙ cleared-twice (bodyIn s) (least-of (bodyIn s) (p .payload) found) t
 
-    pub new-valid : validateMic E (alone newFrame) newPacket ≡ Valid
+    pub new-valid : validateMic E (alone newFrame) (evenMesh newPacket) ≡ Valid
     unfolding validateMic
     new-valid =
-        let k : kindsIn (alone newFrame) newPacket ≡ 0 = known-payload (alone newFrame) (newPacket .payload) _ (wire-is newFrame newPacket new-bytes read-gives) in
-        simp (eq-eqb (kindsIn (alone newFrame) newPacket) 0 k)
+        let q = evenMesh newPacket in
+        let k : kindsIn (alone newFrame) q ≡ 0 = known-payload (alone newFrame) (q .payload) _ (wire-is newFrame q new-bytes read-gives) in
+        simp (eq-eqb (kindsIn (alone newFrame) q) 0 k)
         (ap (comparedBy E newMic)
-        (signed-is newFrame newPacket new-bytes read-gives v (carryingCount p (e .count) .mhdr) true newMic byte ∙ ap (λ (x : List ℕ). bytes (v ∷ x)) new-again)
+        (signed-is newFrame q new-bytes read-gives v (carryingCount p (e .count) .mhdr) true newMic byte ∙ ap (λ (x : List ℕ). bytes (v ∷ x)) new-again)
         ∙ simp (eq-eqb newMic newMic refl))
 
     -- behind the relay id nothing is changed

@@ -19,8 +19,9 @@ use Rattle.contents.specs.declared.content.Content.{Content}
 use Rattle.contents.specs.declared.content.Content.the-variants.{Empty, Open}
 use Rattle.events.specs.declared.stamped.EventPayload.{EventPayload}
 use Rattle.events.specs.declared.stamped.CommandPayload.{CommandPayload}
-use Rattle.packets.specs.Read.{carrying}
+use Rattle.packets.specs.Read.{carrying, evenPayload}
 use Rattle.packets.specs.declared.mesh.Payload.{Payload}
+use Rattle.packets.specs.declared.mesh.Payload.the-variants.{Uplink as AnUplink, Downlink as ADownlink, Event as AnEvent, Command as ACommand}
 use Rattle.packets.specs.declared.mesh.MeshPacket.{MeshPacket}
 use Rattle.sealing.specs.Open.{refusedOr, openedAs, sealWire, openedBy, readSealed, decryptOf, workAfter, decodeOf}
 use Rattle.sealing.specs.Seal.{eventOpened, commandOpened}
@@ -122,11 +123,28 @@ module _ (p : MeshPacket) where
     command-under u AlreadyOpen = refl
     command-under u (Refused n) = refl
 
--- another header and MIC change nothing of the payload
-under : {A : Type 0} (h : Payload → List ℕ → List ℕ → List A) (q : MeshPacket) (y : MeshOpened) (f k : List ℕ) → ofOpened h (openedUnder q y) f k ≡ ofOpened h y f k
-under h q (MeshNow x o) f k = refl
-under h q MeshOpen f k = refl
-under h q (MeshNot n) f k = refl
+-- the odd bits are no part of what an event or a command has
+even-bytes : (x : Payload) (f k : List ℕ) → bytesIn (evenPayload x) f k ≡ bytesIn x f k
+even-bytes (AnUplink u) f k = refl
+even-bytes (ADownlink u) f k = refl
+even-bytes (AnEvent u) f k = refl
+even-bytes (ACommand u) f k = refl
+
+even-pieces : (x : Payload) (f k : List ℕ) → piecesIn (evenPayload x) f k ≡ piecesIn x f k
+even-pieces (AnUplink u) f k = refl
+even-pieces (ADownlink u) f k = refl
+even-pieces (AnEvent u) f k = refl
+even-pieces (ACommand u) f k = refl
+
+-- what does not look at them
+abbrev Blind : {A : Type 0} → (Payload → List ℕ → List ℕ → List A) → Type 0
+Blind h = (x : Payload) (f k : List ℕ) → h (evenPayload x) f k ≡ h x f k
+
+-- sees no change in another header and MIC either
+under : {A : Type 0} (h : Payload → List ℕ → List ℕ → List A) → Blind h → (q : MeshPacket) (y : MeshOpened) (f k : List ℕ) → ofOpened h (openedUnder q y) f k ≡ ofOpened h y f k
+under h n q (MeshNow x o) f k = n (x .payload) f k
+under h n q MeshOpen f k = refl
+under h n q (MeshNot i) f k = refl
 
 -- the same bytes are the same items
 items-of : (y : MeshOpened) (f g k : List ℕ) → ofOpened bytesIn y g k ≡ ofOpened bytesIn y f k → ofOpened piecesIn y g k ≡ ofOpened piecesIn y f k
@@ -134,7 +152,7 @@ items-of (MeshNow x o) f g k h = ap (pieces (isEvent (x .payload)) 0) h
 items-of MeshOpen f g k h = refl
 items-of (MeshNot n) f g k h = refl
 
--- ---- packets: p in the frame f, and q in g with the same payload. b is the body, and f and g agree in the run behind its relay id
+-- ---- packets: p in the frame f, and q in g with the same payload without odd bits. b is the body, and f and g agree in the run behind its relay id
 
 module _ (f g b : List ℕ) (long : length g ≡ length f) (same : runBytes g (runIn b) ≡ runBytes f (runIn b)) where
   abbrev r : Run
@@ -146,14 +164,14 @@ module _ (f g b : List ℕ) (long : length g ≡ length f) (same : runBytes g (r
   bytes-by _ (event u l h) k = payload-by f g r long same (u .events) h k
   bytes-by _ (command u l h) k = payload-by f g r long same (u .commands) h k
 
-  mesh-work-by : (key : List ℕ) (a : Payload) → Lies b a → (k : List ℕ) → meshWork key a g k ≡ meshWork key a f k
+  mesh-work-by : (key : List ℕ) (a : Payload) → Lies b a → (k : List ℕ) → meshWork key (evenPayload a) g k ≡ meshWork key a f k
   unfolding meshWork
   mesh-work-by key _ (uplink u l) k = refl
   mesh-work-by key _ (downlink u l) k = refl
   mesh-work-by key _ (event u l h) k = work-by f g r long same key true (u .«relay_id») (u .timestamp) (u .events) h k
   mesh-work-by key _ (command u l h) k = work-by f g r long same key false (u .«relay_id») (u .timestamp) (u .commands) h k
 
-  module _ (p q : MeshPacket) (payload : q .payload ≡ p .payload) (found : Lies b (p .payload)) where
+  module _ (p q : MeshPacket) (payload : q .payload ≡ evenPayload (p .payload)) (found : Lies b (p .payload)) where
     abbrev a : Payload
     a = p .payload
 
@@ -162,10 +180,10 @@ module _ (f g b : List ℕ) (long : length g ≡ length f) (same : runBytes g (r
     same-work key k = ap (λ (x : Payload). meshWork key x g k) payload ∙ mesh-work-by key a found k
 
     -- the answers
-    plain : MeshNow q nothing ≡ MeshNow (carrying q a) nothing
+    plain : MeshNow q nothing ≡ MeshNow (carrying q (evenPayload a)) nothing
     plain = ap (λ (x : Payload). MeshNow (carrying q x) nothing) payload
 
-    answer-by : (key : List ℕ) (x : Payload) → Lies b x → (k : List ℕ) → meshDecrypted key q x g k ≡ openedUnder q (meshDecrypted key p x f k)
+    answer-by : (key : List ℕ) (x : Payload) → Lies b x → (k : List ℕ) → meshDecrypted key q (evenPayload x) g k ≡ openedUnder q (meshDecrypted key p x f k)
     unfolding meshDecrypted
     answer-by key _ (uplink u l) k = plain
     answer-by key _ (downlink u l) k = plain
@@ -179,7 +197,7 @@ module _ (f g b : List ℕ) (long : length g ≡ length f) (same : runBytes g (r
     pub same-decrypted : (key k : List ℕ) → meshDecrypted key q (q .payload) g k ≡ openedUnder q (meshDecrypted key p a f k)
     same-decrypted key k = ap (λ (x : Payload). meshDecrypted key q x g k) payload ∙ answer-by key a found k
 
-    told-by : (x : Payload) → Lies b x → (k : List ℕ) → meshDecoded q x g k ≡ openedUnder q (meshDecoded p x f k)
+    told-by : (x : Payload) → Lies b x → (k : List ℕ) → meshDecoded q (evenPayload x) g k ≡ openedUnder q (meshDecoded p x f k)
     unfolding meshDecoded
     told-by _ (uplink u l) k = plain
     told-by _ (downlink u l) k = plain
@@ -193,7 +211,7 @@ module _ (f g b : List ℕ) (long : length g ≡ length f) (same : runBytes g (r
 
     -- the bytes, and the items
     pub sealed-bytes : (k : List ℕ) → bytesIn (q .payload) g k ≡ bytesIn a f k
-    sealed-bytes k = ap (λ (x : Payload). bytesIn x g k) payload ∙ bytes-by a found k
+    sealed-bytes k = ap (λ (x : Payload). bytesIn x g k) payload ∙ even-bytes a g k ∙ bytes-by a found k
 
     clear-by : (key : List ℕ) (x : Payload) → Lies b x → (k m : List ℕ) → ofOpened bytesIn (meshDecrypted key p x f k) g m ≡ ofOpened bytesIn (meshDecrypted key p x f k) f m
     unfolding meshDecrypted
@@ -221,14 +239,14 @@ module _ (f g b : List ℕ) (long : length g ≡ length f) (same : runBytes g (r
       abbrev y : MeshOpened
       y = meshDecoded p a f k
 
-      decode-with : {A : Type 0} (h : Payload → List ℕ → List ℕ → List A) → ofOpened h y g k ≡ ofOpened h y f k → decoded h q g k ≡ decoded h p f k
-      decode-with h e = ap (λ (x : MeshOpened). ofOpened h x g k) (same-decoded k) ∙ under h q y g k ∙ e
+      decode-with : {A : Type 0} (h : Payload → List ℕ → List ℕ → List A) → Blind h → ofOpened h y g k ≡ ofOpened h y f k → decoded h q g k ≡ decoded h p f k
+      decode-with h n e = ap (λ (x : MeshOpened). ofOpened h x g k) (same-decoded k) ∙ under h n q y g k ∙ e
 
       pub decoded-bytes : decoded bytesIn q g k ≡ decoded bytesIn p f k
-      decoded-bytes = decode-with bytesIn (stand-by a found k)
+      decoded-bytes = decode-with bytesIn even-bytes (stand-by a found k)
 
       pub decoded-items : decoded piecesIn q g k ≡ decoded piecesIn p f k
-      decoded-items = decode-with piecesIn (items-of y f g k (stand-by a found k))
+      decoded-items = decode-with piecesIn even-pieces (items-of y f g k (stand-by a found k))
 
     module _ (key k : List ℕ) where
       abbrev z : MeshOpened
@@ -237,11 +255,11 @@ module _ (f g b : List ℕ) (long : length g ≡ length f) (same : runBytes g (r
       abbrev m : List ℕ
       m = meshWork key a f k
 
-      decrypt-with : {A : Type 0} (h : Payload → List ℕ → List ℕ → List A) → ofOpened h z g m ≡ ofOpened h z f m → decrypted h key q g k ≡ decrypted h key p f k
-      decrypt-with h e = ap₂ (λ (x : MeshOpened) (v : List ℕ). ofOpened h x g v) (same-decrypted key k) (same-work key k) ∙ under h q z g m ∙ e
+      decrypt-with : {A : Type 0} (h : Payload → List ℕ → List ℕ → List A) → Blind h → ofOpened h z g m ≡ ofOpened h z f m → decrypted h key q g k ≡ decrypted h key p f k
+      decrypt-with h n e = ap₂ (λ (x : MeshOpened) (v : List ℕ). ofOpened h x g v) (same-decrypted key k) (same-work key k) ∙ under h n q z g m ∙ e
 
       pub decrypted-bytes : decrypted bytesIn key q g k ≡ decrypted bytesIn key p f k
-      decrypted-bytes = decrypt-with bytesIn (clear-by key a found k m)
+      decrypted-bytes = decrypt-with bytesIn even-bytes (clear-by key a found k m)
 
       pub decrypted-items : decrypted piecesIn key q g k ≡ decrypted piecesIn key p f k
-      decrypted-items = decrypt-with piecesIn (items-of z f g m (clear-by key a found k m))
+      decrypted-items = decrypt-with piecesIn even-pieces (items-of z f g m (clear-by key a found k m))

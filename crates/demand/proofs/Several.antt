@@ -10,7 +10,7 @@ use Rattle.fips197.specs.Aes.{aes}
 use Rattle.fields.specs.Header.{headerByte}
 use Rattle.fields.specs.declared.header.HeaderByte.{HeaderByte}
 use Rattle.fields.specs.declared.header.HeaderByte.the-variants.{Byte, Refused as NoByte}
-use Rattle.packets.specs.Read.{meshOf}
+use Rattle.packets.specs.Read.{meshOf, evenMesh}
 use Rattle.packets.specs.declared.mesh.MeshPacket.{MeshPacket}
 use Rattle.packets.specs.declared.mesh.MeshRead.{MeshRead}
 use Rattle.packets.specs.declared.mesh.MeshRead.the-variants.{Mesh, Refused}
@@ -26,11 +26,11 @@ module _ (s : List ℕ) (small : Bytes s) where
         → edited (newFrame s p small x d v y) e ≡ edited s e
     second p x v y (NoByte k) z =
         let w = newFrame s p small x d v y in
-        let q = newPacket s p small x d v y in
+        let q = evenMesh (newPacket s p small x d v y) in
         edit-uncounted (aes (e .key)) w q k (e .count) (read-gives s p small x d v y) z ∙ sym (edit-uncounted (aes (e .key)) s p k (e .count) x z)
     second p x v y (Byte u) z =
         let w = newFrame s p small x d v y in
-        let q = newPacket s p small x d v y in
+        let q = evenMesh (newPacket s p small x d v y) in
         edit-is w q (new-bytes s p small x d v y) (read-gives s p small x d v y) u (aes (e .key)) (e .count) z
         ∙ ap (λ (l : List ℕ). bytes (sealedWith (aes (e .key)) u l)) (new-again s p small x d v y)
         ∙ sym (edit-gives s p small x e u z)

@@ -12,7 +12,7 @@ use Rattle.base.specs.Blocks.{Block}
 use Rattle.fips197.specs.Aes.{aes}
 use Rattle.items.specs.Items.{Piece, pieces}
 use Rattle.contents.specs.Content.{payloadOf}
-use Rattle.packets.specs.Read.{carrying}
+use Rattle.packets.specs.Read.{carrying, evenPayload}
 use Rattle.packets.specs.declared.mesh.Payload.{Payload}
 use Rattle.packets.specs.declared.mesh.Payload.the-variants.{Uplink, Downlink, Event, Command}
 use Rattle.packets.specs.declared.mesh.MeshPacket.{MeshPacket}
@@ -27,7 +27,7 @@ use Rattle.hops.specs.Hops.{hopEdit, leaves}
 abbrev pub bitOf : List ℕ → ℕ → ℕ → ℕ
 bitOf s j i = getD s j 0 / 2 ^ i % 2
 
--- the three bits of the count, the four bytes of the MIC, and the two ignored bits of an uplink's snr byte, which is byte 4
+-- the three bits of the count, the four bytes of the MIC, and the odd bits of an uplink's snr byte, which is byte 4
 unfoldable pub mayDiffer : List ℕ → ℕ → ℕ → Bool
 mayDiffer s j i = (eqb j 0 && ltb i 3) || (leb (length s) (j + 4) || (eqb (getD s 0 0 / 8 % 4) 0 && (eqb j 4 && leb 6 i)))
 
@@ -62,9 +62,9 @@ afterOnly s (some e) = after s e
 
 -- ---- opening
 
--- an opening's answer, its packet under p's header and MIC
+-- an opening's answer, its packet under p's header and MIC and without odd bits
 abbrev pub openedUnder : MeshPacket → MeshOpened → MeshOpened
-openedUnder p (Opened q o) = Opened (carrying p (q .payload)) o
+openedUnder p (Opened q o) = Opened (carrying p (evenPayload (q .payload))) o
 openedUnder p AlreadyOpen = AlreadyOpen
 openedUnder p (Refused n) = Refused n
 

@@ -3,20 +3,30 @@
 use mathlib.Core.Path.{_≡_, refl}
 use Rattle.wire.specs.Number.{beMore, beOf, beBytes}
 use Rattle.wire.specs.Hex.{nibbleOf, digitOf, pairOf, allHex, unhex, hexText}
+use Rattle.fields.specs.Signal.{snrOf}
 use Rattle.fields.specs.Header.{typeRead, headerOf}
 use Rattle.links.specs.Read.{uplinkAt, downlinkAt}
 use Rattle.events.specs.Read.{stampedAt, eventAt, commandAt}
 use Rattle.packets.specs.Read.{payloadAt, meshOf, packetOf}
 use Rattle.dump.specs.Ascii.{ascii}
-use Rattle.dump.specs.Dump.{lastDigits, decimal, labelOf, lineOf, meshText, frameText, badHex, lineText}
+use Rattle.dump.specs.Dump.{lastDigits, decimal, labelOf, oddText, lineOf, meshText, frameText, badHex, lineText}
 
 pub four-lines :
     (lineText (ascii "e012355007020a0b0c0d11223344") ≡ ascii "[Uplink hop_count: 1, uplink_id: 291, relay_id: 0a0b0c0d, mic: 11223344]")
     × (lineText (ascii "f20000003c0a0b0c0d01020304") ≡ ascii "[Event hop_count: 3, timestamp: 60, relay_id: 0a0b0c0d]")
     × (lineText (ascii "40") ≡ ascii "lora 1")
     × (lineText (ascii "e0") ≡ ascii "refused 2")
-unfolding beMore beOf beBytes nibbleOf digitOf pairOf allHex unhex hexText typeRead headerOf uplinkAt stampedAt eventAt payloadAt meshOf packetOf lastDigits decimal labelOf lineOf meshText frameText badHex lineText
+unfolding beMore beOf beBytes nibbleOf digitOf pairOf allHex unhex hexText typeRead snrOf headerOf uplinkAt stampedAt eventAt payloadAt meshOf packetOf lastDigits decimal labelOf oddText lineOf meshText frameText badHex lineText
 four-lines = (refl, refl, refl, refl)
+
+-- the first of them with each of the four values of its odd bits
+pub odd-lines :
+    (lineText (ascii "e012355007020a0b0c0d11223344") ≡ ascii "[Uplink hop_count: 1, uplink_id: 291, relay_id: 0a0b0c0d, mic: 11223344]")
+    × (lineText (ascii "e012355047020a0b0c0d11223344") ≡ ascii "[Uplink hop_count: 1, uplink_id: 291, relay_id: 0a0b0c0d, mic: 11223344 odd: 1]")
+    × (lineText (ascii "e012355087020a0b0c0d11223344") ≡ ascii "[Uplink hop_count: 1, uplink_id: 291, relay_id: 0a0b0c0d, mic: 11223344 odd: 2]")
+    × (lineText (ascii "e0123550c7020a0b0c0d11223344") ≡ ascii "[Uplink hop_count: 1, uplink_id: 291, relay_id: 0a0b0c0d, mic: 11223344 odd: 3]")
+unfolding beMore beOf beBytes nibbleOf digitOf pairOf allHex unhex hexText typeRead snrOf headerOf uplinkAt payloadAt meshOf packetOf lastDigits decimal labelOf oddText lineOf meshText frameText badHex lineText
+odd-lines = (refl, refl, refl, refl)
 
 -- a blank line, an odd count of digits, bytes that are no digit, short frames, upper case, and the ends of each number
 pub more-lines :
@@ -30,5 +40,5 @@ pub more-lines :
     × (lineText (ascii "e8fff08476280f0a0b0c0d00000001") ≡ ascii "[Downlink hop_count: 1, uplink_id: 4095, relay_id: 0a0b0c0d, mic: 00000001]")
     × (lineText (ascii "ffffffffff0a0b0c0d01020304") ≡ ascii "[Command hop_count: 8, timestamp: 4294967295, relay_id: 0a0b0c0d]")
     × (lineText (ascii "f8000000000a0b0c0d01020304") ≡ ascii "[Command hop_count: 1, timestamp: 0, relay_id: 0a0b0c0d]")
-unfolding beMore beOf beBytes nibbleOf digitOf pairOf allHex unhex hexText typeRead headerOf uplinkAt downlinkAt stampedAt eventAt commandAt payloadAt meshOf packetOf lastDigits decimal labelOf lineOf meshText frameText badHex lineText
+unfolding beMore beOf beBytes nibbleOf digitOf pairOf allHex unhex hexText typeRead snrOf headerOf uplinkAt downlinkAt stampedAt eventAt commandAt payloadAt meshOf packetOf lastDigits decimal labelOf oddText lineOf meshText frameText badHex lineText
 more-lines = (refl, refl, refl, refl, refl, refl, refl, refl, refl, refl)

@@ -8,6 +8,7 @@ use Rattle.base.specs.Pick.{pick}
 use Rattle.base.specs.Numbers.{lineDigits}
 use Rattle.wire.specs.Number.{beBytes}
 use Rattle.wire.specs.Hex.{allHex, unhex, hexText}
+use Rattle.fields.specs.Limits.{oddMost}
 use Rattle.fields.specs.declared.header.PayloadType.{PayloadType}
 use Rattle.fields.specs.declared.header.PayloadType.the-variants.{Uplink, Downlink, Event, Command}
 use Rattle.packets.specs.Read.{packetOf}
@@ -51,26 +52,30 @@ nameOf Command = ascii "Command"
 unfoldable pub labelOf : PayloadType → List ℕ
 labelOf t = ascii "[" ++ nameOf t ++ ascii " hop_count: "
 
+-- odd bits, where there are any: one digit, 1 to 3
+unfoldable pub oddText : ℕ → List ℕ
+oddText n = pick (ltb 0 n) (pick (ltb oddMost n) [] (ascii " odd: " ++ ((48 + n) ∷ []))) []
+
 -- word and tail are what uplinks and events have of their own
-unfoldable pub lineOf : PayloadType → ℕ → List ℕ → ℕ → ℕ → List ℕ → List ℕ
-lineOf t hops word n relay tail =
-    labelOf t ++ decimal hops ++ word ++ decimal n ++ ascii ", relay_id: " ++ fourText relay ++ tail ++ ascii "]"
+unfoldable pub lineOf : PayloadType → ℕ → List ℕ → ℕ → ℕ → List ℕ → ℕ → List ℕ
+lineOf t hops word n relay tail odd =
+    labelOf t ++ decimal hops ++ word ++ decimal n ++ ascii ", relay_id: " ++ fourText relay ++ tail ++ oddText odd ++ ascii "]"
 
 -- nothing where there is none, as in the Rust
 abbrev pub micText : Bool → ℕ → List ℕ
 micText has mic = pick has (fourText mic) []
 
 -- of an uplink or a downlink
-abbrev pub linkText : PayloadType → ℕ → ℕ → ℕ → Bool → ℕ → List ℕ
-linkText t hops id relay has mic = lineOf t hops (ascii ", uplink_id: ") id relay (ascii ", mic: " ++ micText has mic)
+abbrev pub linkText : PayloadType → ℕ → ℕ → ℕ → Bool → ℕ → ℕ → List ℕ
+linkText t hops id relay has mic odd = lineOf t hops (ascii ", uplink_id: ") id relay (ascii ", mic: " ++ micText has mic) odd
 
 -- of an event or a command; a timestamp is plain seconds
 abbrev pub stampedText : PayloadType → ℕ → ℕ → ℕ → List ℕ
-stampedText t hops timestamp relay = lineOf t hops (ascii ", timestamp: ") timestamp relay []
+stampedText t hops timestamp relay = lineOf t hops (ascii ", timestamp: ") timestamp relay [] 0
 
 abbrev pub payloadText : PayloadType → ℕ → Bool → ℕ → Payload → List ℕ
-payloadText t hops has mic (AnUplink p) = linkText t hops (p .metadata .«uplink_id») (p .«relay_id») has mic
-payloadText t hops has mic (ADownlink p) = linkText t hops (p .metadata .«uplink_id») (p .«relay_id») has mic
+payloadText t hops has mic (AnUplink p) = linkText t hops (p .metadata .«uplink_id») (p .«relay_id») has mic (p .metadata .odd)
+payloadText t hops has mic (ADownlink p) = linkText t hops (p .metadata .«uplink_id») (p .«relay_id») has mic 0
 payloadText t hops has mic (AnEvent p) = stampedText t hops (p .timestamp) (p .«relay_id»)
 payloadText t hops has mic (ACommand p) = stampedText t hops (p .timestamp) (p .«relay_id»)
 

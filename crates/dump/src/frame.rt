@@ -5,11 +5,12 @@ ghost use lib.ListN.{length};
 ghost use Prim.Native.Nat.{_+_, _≤_};
 ghost use Rattle.base.specs.Answers.{bytes, answerOf, outOf};
 ghost use Rattle.wire.specs.Lay.{put};
-ghost use Rattle.dump.specs.Dump.{labelOf, fourText, withNumber, refusedText, lineOf, linkText, stampedText, meshText, frameText};
+ghost use Rattle.dump.specs.Dump.{labelOf, fourText, oddText, withNumber, refusedText, lineOf, linkText, stampedText, meshText, frameText};
 use crate::digits::put_decimal;
 use crate::digits::width;
 use base::Refusal;
 use base::Written;
+use fields::Odd;
 use fields::PayloadType;
 use packets::MeshPacket;
 use packets::Packet;
@@ -74,7 +75,34 @@ fn put_four(n: u32, out: &mut [u8], at: usize)
     write_hex(&be32_bytes(n), out, at)
 }
 
-// Label and hop count, a word and its number, the relay id and what follows it, one after the other, and last the closing bracket; or 21.
+// Odd bits, and how long they are: nothing where there are none, or more than two.
+fn put_odd(odd: u8, out: &mut [u8], at: usize)
+    ensures { λ _. ⌜ now (out .exit) ≡ put (now (out .entry)) at (oddText odd) ⌝ }
+{
+    if odd == 0 {
+        return;
+    }
+    if Odd::MOST < odd {
+        return;
+    }
+    put_all(&[b' ', b'o', b'd', b'd', b':', b' ', b'0' + odd], out, at)
+}
+
+fn odd_len(odd: u8) -> usize
+    ensures { λ r. ⌜ r ≡ length (oddText odd) ⌝ }
+    ensures { λ r. ⌜ r ≤ 7 ⌝ }
+{
+    if odd == 0 {
+        return 0;
+    }
+    if Odd::MOST < odd {
+        return 0;
+    }
+    7
+}
+
+// Label and hop count, a word and its number, the relay id and what follows it, odd bits, one after the other, and last the closing bracket;
+// or 21.
 fn write_line(
     t: PayloadType,
     hops: u32,
@@ -82,11 +110,12 @@ fn write_line(
     n: u32,
     relay: u32,
     tail: &[u8],
+    odd: u8,
     out: &mut [u8],
 ) -> Written
     requires { ⌜ length (now word) + length (now tail) ≤ 64 ⌝ }
-    ensures answer { λ r. ⌜ r ≡ answerOf (bytes (lineOf t hops (now (word .entry)) n relay (now (tail .entry)))) (now (out .entry)) ⌝ }
-    ensures bytes { λ _. ⌜ now (out .exit) ≡ outOf (bytes (lineOf t hops (now (word .entry)) n relay (now (tail .entry)))) (now (out .entry)) ⌝ }
+    ensures answer { λ r. ⌜ r ≡ answerOf (bytes (lineOf t hops (now (word .entry)) n relay (now (tail .entry)) odd)) (now (out .entry)) ⌝ }
+    ensures bytes { λ _. ⌜ now (out .exit) ≡ outOf (bytes (lineOf t hops (now (word .entry)) n relay (now (tail .entry)) odd)) (now (out .entry)) ⌝ }
 {
     let a = label_len(t);
     let b = a + width(hops);
@@ -95,7 +124,8 @@ fn write_line(
     let e = d + 12;
     let f = e + 8;
     let g = f + tail.len();
-    let end = g + 1;
+    let h = g + odd_len(odd);
+    let end = h + 1;
     if out.len() < end {
         return Written::Refused(Refusal::OUTPUT_SHORT);
     }
@@ -106,7 +136,8 @@ fn write_line(
     put_all(b", relay_id: ", out, d);
     put_four(relay, out, e);
     put_all(tail, out, f);
-    put_all(b"]", out, g);
+    put_odd(odd, out, g);
+    put_all(b"]", out, h);
     Written::Bytes(end)
 }
 
@@ -118,10 +149,11 @@ fn write_link(
     relay: u32,
     has_mic: bool,
     mic: u32,
+    odd: u8,
     out: &mut [u8],
 ) -> Written
-    ensures answer { λ r. ⌜ r ≡ answerOf (bytes (linkText t hops id relay «has_mic» mic)) (now (out .entry)) ⌝ }
-    ensures bytes { λ _. ⌜ now (out .exit) ≡ outOf (bytes (linkText t hops id relay «has_mic» mic)) (now (out .entry)) ⌝ }
+    ensures answer { λ r. ⌜ r ≡ answerOf (bytes (linkText t hops id relay «has_mic» mic odd)) (now (out .entry)) ⌝ }
+    ensures bytes { λ _. ⌜ now (out .exit) ≡ outOf (bytes (linkText t hops id relay «has_mic» mic odd)) (now (out .entry)) ⌝ }
 {
     if !has_mic {
         return write_line(
@@ -131,6 +163,7 @@ fn write_link(
             id as u32,
             relay,
             b", mic: ",
+            odd,
             out,
         );
     }
@@ -144,6 +177,7 @@ fn write_link(
         id as u32,
         relay,
         &tail,
+        odd,
         out,
     )
 }
@@ -153,7 +187,16 @@ fn write_stamped(t: PayloadType, hops: u8, timestamp: u32, relay: u32, out: &mut
     ensures answer { λ r. ⌜ r ≡ answerOf (bytes (stampedText t hops timestamp relay)) (now (out .entry)) ⌝ }
     ensures bytes { λ _. ⌜ now (out .exit) ≡ outOf (bytes (stampedText t hops timestamp relay)) (now (out .entry)) ⌝ }
 {
-    write_line(t, hops as u32, b", timestamp: ", timestamp, relay, b"", out)
+    write_line(
+        t,
+        hops as u32,
+        b", timestamp: ",
+        timestamp,
+        relay,
+        b"",
+        0,
+        out,
+    )
 }
 
 // The text of a packet in hand (the Rust's Display), or 21. The label goes by the header, the fields by the payload, as in the Rust.
@@ -168,9 +211,12 @@ pub fn write_text(packet: MeshPacket, out: &mut [u8]) -> Written
     let mic = packet.mic;
     let payload = packet.payload;
     match payload {
-        Payload::Uplink(u) => write_link(t, hops, u.metadata.uplink_id, u.relay_id, has, mic, out),
+        Payload::Uplink(u) => {
+            let m = u.metadata;
+            write_link(t, hops, m.uplink_id, u.relay_id, has, mic, m.odd, out)
+        }
         Payload::Downlink(d) => {
-            write_link(t, hops, d.metadata.uplink_id, d.relay_id, has, mic, out)
+            write_link(t, hops, d.metadata.uplink_id, d.relay_id, has, mic, 0, out)
         }
         Payload::Event(e) => write_stamped(t, hops, e.timestamp, e.relay_id, out),
         Payload::Command(c) => write_stamped(t, hops, c.timestamp, c.relay_id, out),
@@ -189,9 +235,12 @@ fn write_mesh(packet: MeshPacket, out: &mut [u8]) -> Written
     let mic = packet.mic;
     let payload = packet.payload;
     match payload {
-        Payload::Uplink(u) => write_link(t, hops, u.metadata.uplink_id, u.relay_id, has, mic, out),
+        Payload::Uplink(u) => {
+            let m = u.metadata;
+            write_link(t, hops, m.uplink_id, u.relay_id, has, mic, m.odd, out)
+        }
         Payload::Downlink(d) => {
-            write_link(t, hops, d.metadata.uplink_id, d.relay_id, has, mic, out)
+            write_link(t, hops, d.metadata.uplink_id, d.relay_id, has, mic, 0, out)
         }
         Payload::Event(v) => write_stamped(t, hops, v.timestamp, v.relay_id, out),
         Payload::Command(c) => write_stamped(t, hops, c.timestamp, c.relay_id, out),

@@ -21,8 +21,6 @@ use Rattle.fields.proofs.signal.rssi_of.Kinds as rssi-of-kinds
 use Rattle.fields.proofs.signal.rssi_of.Reads as rssi-of-reads
 use Rattle.fields.proofs.signal.snr_of.Kinds as snr-of-kinds
 use Rattle.fields.proofs.signal.snr_of.Reads as snr-of-reads
-use Rattle.fields.proofs.signal.ignored_of.Kinds as ignored-of-kinds
-use Rattle.fields.proofs.signal.ignored_of.Reads as ignored-of-reads
 use Rattle.fields.proofs.signal.rssi_byte.Kinds as rssi-byte-kinds
 use Rattle.fields.proofs.signal.rssi_byte.Reads as rssi-byte-reads
 use Rattle.fields.proofs.signal.snr_byte.Kinds as snr-byte-kinds
@@ -39,8 +37,8 @@ use Rattle.fields.proofs.path.RelayPath.from_bytes.Kinds as path-from-b
 use Rattle.fields.proofs.path.RelayPath.from_bytes.Reads as path-from-bytes-reads
 use Rattle.fields.proofs.path.RelayPath.to_bytes.Kinds as path-to-bytes-kinds
 use Rattle.fields.proofs.path.RelayPath.to_bytes.Reads as path-to-bytes-reads
-use Rattle.fields.proofs.path.RelayPath.ignored_clear.Kinds as ignored-clear-kinds
-use Rattle.fields.proofs.path.RelayPath.ignored_clear.Reads as ignored-clear-reads
+use Rattle.fields.proofs.path.RelayPath.all_even.Kinds as all-even-kinds
+use Rattle.fields.proofs.path.RelayPath.all_even.Reads as all-even-reads
 use Rattle.fields.proofs.header.PayloadType.limits.Kinds as type-limits-kinds
 use Rattle.fields.proofs.header.PayloadType.limits.Reads as type-limits-reads
 use Rattle.fields.proofs.freq.Frequency.limits.Kinds as frequency-limits-kinds
@@ -51,6 +49,8 @@ use Rattle.fields.proofs.meta.Dr.limits.Kinds as dr-limits-kinds
 use Rattle.fields.proofs.meta.Dr.limits.Reads as dr-limits-reads
 use Rattle.fields.proofs.meta.Channel.limits.Kinds as channel-limits-kinds
 use Rattle.fields.proofs.meta.Channel.limits.Reads as channel-limits-reads
+use Rattle.fields.proofs.signal.Odd.limits.Kinds as odd-limits-kinds
+use Rattle.fields.proofs.signal.Odd.limits.Reads as odd-limits-reads
 use Rattle.fields.proofs.meta.TxPower.limits.Kinds as tx-power-limits-kinds
 use Rattle.fields.proofs.meta.TxPower.limits.Reads as tx-power-limits-reads
 use Rattle.fields.proofs.word.RelayId.limits.Kinds as relay-limits-kinds
@@ -90,9 +90,6 @@ rssi-of κs a x y v w p q = (p ∙ sym q, refl)
 snr-of : Fixed 0 snr-of-kinds.ps snr-of-kinds.r snr-of-reads.Post
 snr-of κs a x y v w p q = (p ∙ sym q, refl)
 
-ignored-of : Fixed 0 ignored-of-kinds.ps ignored-of-kinds.r ignored-of-reads.Post
-ignored-of κs a x y v w p q = (p ∙ sym q, refl)
-
 rssi-byte : Fixed 0 rssi-byte-kinds.ps rssi-byte-kinds.r rssi-byte-reads.Post
 rssi-byte κs a x y v w p q = (p ∙ sym q, refl)
 
@@ -117,8 +114,8 @@ path-from-bytes κs a x y v w p q = (p ∙ sym q, refl)
 path-to-bytes : Fixed 0 path-to-bytes-kinds.ps path-to-bytes-kinds.r path-to-bytes-reads.Post
 path-to-bytes κs a x y v w p q = (p ∙ sym q, refl)
 
-ignored-clear : Fixed 1 ignored-clear-kinds.ps ignored-clear-kinds.r ignored-clear-reads.Post
-ignored-clear κs a x y v w p q = (p ∙ sym q, refl)
+all-even : Fixed 1 all-even-kinds.ps all-even-kinds.r all-even-reads.Post
+all-even κs a x y v w p q = (p ∙ sym q, refl)
 
 type-limits : Fixed 0 type-limits-kinds.ps type-limits-kinds.r type-limits-reads.Post
 type-limits κs a x y v w p q = (p ∙ sym q, refl)
@@ -134,6 +131,9 @@ dr-limits κs a x y v w p q = (p ∙ sym q, refl)
 
 channel-limits : Fixed 0 channel-limits-kinds.ps channel-limits-kinds.r channel-limits-reads.Post
 channel-limits κs a x y v w p q = (p ∙ sym q, refl)
+
+odd-limits : Fixed 0 odd-limits-kinds.ps odd-limits-kinds.r odd-limits-reads.Post
+odd-limits κs a x y v w p q = (p ∙ sym q, refl)
 
 tx-power-limits : Fixed 0 tx-power-limits-kinds.ps tx-power-limits-kinds.r tx-power-limits-reads.Post
 tx-power-limits κs a x y v w p q = (p ∙ sym q, refl)

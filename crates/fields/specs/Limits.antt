@@ -33,6 +33,12 @@ snrLeast = negsuc 31
 abbrev pub snrMost : ℤ
 snrMost = pos 31
 
+abbrev pub oddLeast : ℕ
+oddLeast = 0
+
+abbrev pub oddMost : ℕ
+oddMost = 3
+
 abbrev pub channelLeast : ℕ
 channelLeast = 0
 

@@ -35,9 +35,14 @@ upOf b =
       «uplink_id» = idOf (getD b 0 0) (getD b 1 0);
       dr = getD b 1 0 % 16;
       rssi = rssiOf (getD b 2 0);
-      snr = snrOf (getD b 3 0);
+      snr = snrOf (getD b 3 0) .snr;
       channel = getD b 4 0;
+      odd = snrOf (getD b 3 0) .odd;
     }
+
+-- without the odd bits, which no writing looks at
+abbrev pub even : UplinkMetadata → UplinkMetadata
+even m = record { «uplink_id» = m .«uplink_id»; dr = m .dr; rssi = m .rssi; snr = m .snr; channel = m .channel; odd = 0 }
 
 -- rssi, snr and what follows them; also of a path entry
 abbrev pub afterSnr : List ℕ → List ℕ → ℕ → SignalByte → Writing

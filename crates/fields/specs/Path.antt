@@ -8,7 +8,7 @@ use Rattle.base.specs.Pick.{pick}
 use Rattle.base.specs.Numbers.{entryBytes}
 use Rattle.base.specs.Answers.{Writing, frameNumber, checkedOf, bytesOr}
 use Rattle.wire.specs.Number.{beOf, beBytes}
-use Rattle.fields.specs.Signal.{rssiOf, snrOf, ignoredOf, rssiByte, snrByte}
+use Rattle.fields.specs.Signal.{rssiOf, evenByte, snrOf, rssiByte, snrByte}
 use Rattle.fields.specs.Meta.{afterRssi}
 use Rattle.fields.specs.declared.path.RelayPath.{RelayPath}
 use Rattle.fields.specs.declared.path.PathBytes.{PathBytes}
@@ -18,8 +18,13 @@ pathOf b =
     record {
       «relay_id» = beOf (getD b 0 0 ∷ getD b 1 0 ∷ getD b 2 0 ∷ getD b 3 0 ∷ []);
       rssi = rssiOf (getD b 4 0);
-      snr = snrOf (getD b 5 0);
+      snr = snrOf (getD b 5 0) .snr;
+      odd = snrOf (getD b 5 0) .odd;
     }
+
+-- without the odd bits, which no writing looks at
+abbrev pub evenEntry : RelayPath → RelayPath
+evenEntry p = record { «relay_id» = p .«relay_id»; rssi = p .rssi; snr = p .snr; odd = 0 }
 
 -- 10 to 13
 unfoldable pub pathWire : RelayPath → Writing
@@ -31,20 +36,20 @@ pathAnswer f = record { answer = checkedOf f; bytes = bytesOr entryBytes f }
 unfoldable pub pathBytes : RelayPath → PathBytes
 pathBytes p = pathAnswer (pathWire p)
 
--- byte i of entries one behind the other, as it is written: the top two bits of each sixth byte, which hold no snr, are 0
+-- byte i of entries one behind the other, as it is written: the odd bits of each sixth byte are 0
 abbrev pub entryByte : ℕ → ℕ → ℕ
-entryByte i b = pick (eqb (i % entryBytes) 5) (b % 64) b
+entryByte i b = pick (eqb (i % entryBytes) 5) (evenByte b) b
 
 -- whether they are 0 as they stand: of one byte, of the bytes from place i on, of whole entries
-abbrev pub clearByte : ℕ → ℕ → Bool
-clearByte i b = pick (eqb (i % entryBytes) 5) (eqb (ignoredOf b) 0) true
+abbrev pub isEven : ℕ → ℕ → Bool
+isEven i b = pick (eqb (i % entryBytes) 5) (eqb (snrOf b .odd) 0) true
 
-unfoldable pub clearFrom : ℕ → List ℕ → Bool
-clearFrom i [] = true
-clearFrom i (b ∷ v) = clearByte i b && clearFrom (suc i) v
+unfoldable pub evenFrom : ℕ → List ℕ → Bool
+evenFrom i [] = true
+evenFrom i (b ∷ v) = isEven i b && evenFrom (suc i) v
 
-abbrev pub ignoredClear : List ℕ → Bool
-ignoredClear v = clearFrom 0 v
+abbrev pub allEven : List ℕ → Bool
+allEven v = evenFrom 0 v
 
 -- the refusal's number, 0 for none; and the six bytes
 unfoldable pub badEntry : RelayPath → ℕ

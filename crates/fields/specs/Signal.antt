@@ -1,22 +1,30 @@
--- The bytes of rssi and snr, 5.6 and 5.7 of the rules. `pos n` is n, and `negsuc n` is -(n + 1). Assumes nothing.
+-- The bytes of rssi and snr, 5.6 to 5.8 of the rules. `pos n` is n, and `negsuc n` is -(n + 1). Assumes nothing.
 use Prim.Native.Nat.{ℕ, zero, suc, _+_, _-_, _/_, _%_}
+use mathlib.Core.List.{List}
 use lib.IntN.{ℤ, pos, negsuc, negℤ}
 use lib.Dec.{ltb}
+use lib.ListN.{getD, set}
 use Rattle.base.specs.Pick.{pick}
 use Rattle.base.specs.Numbers.{rssiLarge, rssiSmall, snrSmall, snrLarge}
 use Rattle.base.specs.Answers.{Answer, value, number}
+use Rattle.fields.specs.declared.signal.SnrRead.{SnrRead}
 use Rattle.fields.specs.declared.signal.SignalByte.{SignalByte}
 use Rattle.fields.specs.declared.signal.SignalByte.the-variants.{Byte, Refused}
 
 unfoldable pub rssiOf : ℕ → ℤ
 rssiOf b = negℤ (pos b)
 
-unfoldable pub snrOf : ℕ → ℤ
-snrOf b = pick (ltb (b % 64) 32) (pos (b % 64)) (negℤ (pos (64 - b % 64)))
+-- the six bits of an snr byte that hold the number: so it is written, with the two odd bits above them as 0
+abbrev pub evenByte : ℕ → ℕ
+evenByte b = b % 64
 
--- the top two bits of an snr byte, which are ignored when read
-abbrev pub ignoredOf : ℕ → ℕ
-ignoredOf b = b / 64
+-- a list of bytes, of which byte i is an snr byte, so
+abbrev pub evenAt : List ℕ → ℕ → List ℕ
+evenAt b i = set b i (evenByte (getD b i 0))
+
+-- the number, and the odd bits as found
+unfoldable pub snrOf : ℕ → SnrRead
+snrOf b = record { snr = pick (ltb (evenByte b) 32) (pos (evenByte b)) (negℤ (pos (64 - evenByte b))); odd = b / 64 }
 
 -- 10 over 0, 11 under -255
 unfoldable pub rssiByte : ℤ → SignalByte

@@ -28,6 +28,7 @@ pub use meta::UplinkId;
 pub use meta::UplinkMetadata;
 pub use path::PathBytes;
 pub use path::RelayPath;
+pub use signal::Odd;
 pub use signal::Rssi;
 pub use signal::SignalByte;
 pub use signal::Snr;

@@ -85,6 +85,7 @@ pub struct UplinkMetadata {
     pub rssi: i16,
     pub snr: i8,
     pub channel: u8,
+    pub odd: u8,
 }
 
 pub struct UplinkBytes {
@@ -160,12 +161,14 @@ impl UplinkMetadata {
     pub fn from_bytes(b: [u8; UplinkMetadata::LENGTH]) -> UplinkMetadata
         ensures { λ r. ⌜ r ≡ upOf b ⌝ }
     {
+        let s = snr_of(b[3]);
         UplinkMetadata {
             uplink_id: id_of(b[0], b[1]),
             dr: b[1] % 16,
             rssi: rssi_of(b[2]),
-            snr: snr_of(b[3]),
+            snr: s.snr,
             channel: b[4],
+            odd: s.odd,
         }
     }
 

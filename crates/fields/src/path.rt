@@ -2,9 +2,8 @@
 // compared at once.
 ghost use mathlib.Core.Path.{_≡_};
 ghost use Rattle.base.specs.Answers.{refused};
-ghost use Rattle.fields.specs.Path.{pathOf, pathBytes, pathAnswer, ignoredClear};
+ghost use Rattle.fields.specs.Path.{pathOf, pathBytes, pathAnswer, allEven};
 use crate::signal::SignalByte;
-use crate::signal::ignored_of;
 use crate::signal::rssi_byte;
 use crate::signal::rssi_of;
 use crate::signal::snr_byte;
@@ -18,6 +17,7 @@ pub struct RelayPath {
     pub relay_id: u32,
     pub rssi: i16,
     pub snr: i8,
+    pub odd: u8,
 }
 
 pub struct PathBytes {
@@ -40,10 +40,12 @@ impl RelayPath {
     pub fn from_bytes(b: [u8; RelayPath::LENGTH]) -> RelayPath
         ensures { λ r. ⌜ r ≡ pathOf b ⌝ }
     {
+        let s = snr_of(b[5]);
         RelayPath {
             relay_id: be32_of(b[0], b[1], b[2], b[3]),
             rssi: rssi_of(b[4]),
-            snr: snr_of(b[5]),
+            snr: s.snr,
+            odd: s.odd,
         }
     }
 
@@ -65,13 +67,13 @@ impl RelayPath {
         }
     }
 
-    // Whether the ignored bits of each are 0, of entries one behind the other.
-    pub fn ignored_clear(path: &[u8]) -> bool
-        ensures { λ r. ⌜ r ≡ ignoredClear (now (path .entry)) ⌝ }
+    // Whether the odd bits of each are 0, of entries one behind the other.
+    pub fn all_even(path: &[u8]) -> bool
+        ensures { λ r. ⌜ r ≡ allEven (now (path .entry)) ⌝ }
     {
         let mut at: usize = 0;
         while RelayPath::LENGTH <= path.len() - at {
-            if ignored_of(path[at + 5]) != 0 {
+            if snr_of(path[at + 5]).odd != 0 {
                 return false;
             }
             at += RelayPath::LENGTH;

@@ -1,6 +1,9 @@
-// Rssi is minus a byte; snr the low six bits of one as a signed number. Uplinks and path entries read and write them here.
+// Rssi is minus a byte; snr the low six bits of one as a signed number, and the two above it are odd. Uplinks and path entries read and
+// write them here.
 ghost use mathlib.Core.Path.{_≡_};
-ghost use Rattle.fields.specs.Signal.{rssiOf, snrOf, ignoredOf, rssiByte, snrByte};
+ghost use mathlib.Core.List.{[], _∷_};
+ghost use Rattle.fields.specs.Limits.{oddLeast, oddMost};
+ghost use Rattle.fields.specs.Signal.{rssiOf, snrOf, rssiByte, snrByte};
 use base::Refusal;
 
 pub struct Rssi;
@@ -19,6 +22,26 @@ impl Snr {
     pub const MOST: i8 = 31;
 }
 
+pub struct Odd;
+
+impl Odd {
+    pub const LEAST: u8 = 0;
+
+    pub const MOST: u8 = 3;
+
+    pub fn limits() -> [u8; 2]
+        ensures { λ r. ⌜ r ≡ oddLeast ∷ oddMost ∷ [] ⌝ }
+    {
+        [Odd::LEAST, Odd::MOST]
+    }
+}
+
+// What an snr byte is read as: the number, and the two bits above it as found. They are no part of the number, and are written as 0.
+pub struct SnrRead {
+    pub snr: i8,
+    pub odd: u8,
+}
+
 pub enum SignalByte {
     Byte(u8),
     Refused(u8),
@@ -30,18 +53,18 @@ pub fn rssi_of(b: u8) -> i16
     -(b as i16)
 }
 
-pub fn snr_of(b: u8) -> i8
+pub fn snr_of(b: u8) -> SnrRead
     ensures { λ r. ⌜ r ≡ snrOf b ⌝ }
 {
     let n = b % 64;
-    if n < 32 { n as i8 } else { -((64 - n) as i8) }
-}
-
-// The top two bits of an snr byte: no part of the snr.
-pub fn ignored_of(b: u8) -> u8
-    ensures { λ r. ⌜ r ≡ ignoredOf b ⌝ }
-{
-    b / 64
+    let odd = b / 64;
+    if n < 32 {
+        return SnrRead { snr: n as i8, odd };
+    }
+    SnrRead {
+        snr: -((64 - n) as i8),
+        odd,
+    }
 }
 
 pub fn rssi_byte(x: i16) -> SignalByte

@@ -157,6 +157,7 @@ fn unused() -> RelayPath {
         relay_id: 0xffffffff,
         rssi: -1,
         snr: -1,
+        odd: 0,
     }
 }
 
@@ -225,6 +226,7 @@ fn paths() {
         relay_id: 1,
         rssi: 1,
         snr: 0,
+        odd: 0,
     };
     writes(
         b"with an rssi of 1        ",

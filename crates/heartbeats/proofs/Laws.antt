@@ -5,10 +5,10 @@ use native.Mathlib.Nat.{add-zero, le-of-suc-le-suc, not-suc-le-zero}
 use native.Mathlib.Omega.{arith}
 use mathlib.Core.Bool.{Bool, true, false}
 use mathlib.Core.Path.{_≡_, refl, sym, ap, ap₂, subst, _∙_}
-use mathlib.Core.List.{List, [], _∷_, _++_}
+use mathlib.Core.List.{List, [], _∷_, _++_, map}
 use lib.Dec.{ltb, eqb, lit<}
 use lib.IntN.{ℤ, pos, negsuc}
-use lib.ListN.{length, getD, take, drop, length-drop, List·getD-append}
+use lib.ListN.{length, getD, take, drop, length-drop, length-map, List·getD-append}
 use lib.Seq.{ext-getD, take-add, take-all, length-take-le, getD-take, getD-drop, getD-append-add, getD-at}
 use borrow.Author.Tests.{lt-ltb, le-ltb, ltb-true, ltb-false, eq-eqb, ne-eqb, eqb-true}
 use Rattle.base.proofs.Bytes.{append-lt}
@@ -18,9 +18,9 @@ use Rattle.base.specs.Lists.{Bytes, imap, orElse, firstOf, joined}
 use Rattle.base.specs.Answers.{Answer, value, number, bytes, refused, bytesOr}
 use Rattle.base.proofs.Lists.{_◂_, imap-length, imap-at, or-zero, listed}
 use Rattle.wire.specs.Number.{beBytes}
-use Rattle.fields.specs.Signal.{rssiByte, snrByte}
+use Rattle.fields.specs.Signal.{evenByte, rssiByte, snrByte}
 use Rattle.fields.specs.Meta.{afterRssi}
-use Rattle.fields.specs.Path.{pathOf, pathWire, entryByte}
+use Rattle.fields.specs.Path.{pathOf, evenEntry, pathWire, entryByte}
 use Rattle.fields.specs.declared.signal.SignalByte.{SignalByte}
 use Rattle.fields.specs.declared.signal.SignalByte.the-variants.{Byte, Refused as NoByte}
 use Rattle.fields.specs.declared.path.RelayPath.{RelayPath}
@@ -152,7 +152,7 @@ wire-was ps w = by (eqb (firstOf badEntry ps) 0) (ltb pathMost (length ps)) refl
     by true true hs ht e = let z : _≡_ {A = ℕ} 0 1 = cc in absurd (omega arith)
     by true false hs ht e = (eqb-true _ _ hs, ltb-false _ _ ht, cc)
 
--- ---- reading what was written
+-- ---- reading what was written: without odd bits
 
 six-first : (s v : List ℕ) → length s ≡ 6 → sixAt (s ++ v) 0 ≡ s
 six-first s v h = ap (λ (x : List ℕ). sixAt (x ++ v) 0) (sym (listed 6 s h)) ∙ listed 6 s h
@@ -170,7 +170,12 @@ six-skip s v i h =
     ◂ skip s v (suc i * 6 + 5) (i * 6 + 5) h (omega arith)
     ◂ refl
 
-entry-back : (ps : List RelayPath) → FourByteIds ps → firstOf badEntry ps ≡ 0 → (i : ℕ) → i < length ps → entryAt (joined sixOf ps) i ≡ getD ps i noPath
+even-at : (ps : List RelayPath) (i : ℕ) → getD (map evenEntry ps) i noPath ≡ evenEntry (getD ps i noPath)
+even-at [] i = refl
+even-at (p ∷ ps) zero = refl
+even-at (p ∷ ps) (suc i) = even-at ps i
+
+entry-back : (ps : List RelayPath) → FourByteIds ps → firstOf badEntry ps ≡ 0 → (i : ℕ) → i < length ps → entryAt (joined sixOf ps) i ≡ evenEntry (getD ps i noPath)
 unfolding entryAt joined firstOf
 entry-back [] h e i l = absurd (not-suc-le-zero l)
 entry-back (p ∷ ps) h e zero l =
@@ -186,14 +191,15 @@ joined-bytes (p ∷ ps) h e i =
     append-lt (sixOf p) (joined sixOf ps) (path-back p (sixOf p) (h 0) (good-entry p (or-zero (badEntry p) (firstOf badEntry ps) e .0)) .1)
     (joined-bytes ps (λ k. h (suc k)) (or-zero (badEntry p) (firstOf badEntry ps) e .1)) i
 
--- what is written reads back as the same records
-pub beat-back : (ps : List RelayPath) (w : List ℕ) → FourByteIds ps → beatWire ps ≡ bytes w → (length w ≡ length ps * 6) × (Bytes w) × (pathsOf w ≡ ps)
+-- what is written reads back as the same records, without odd bits
+pub beat-back : (ps : List RelayPath) (w : List ℕ) → FourByteIds ps → beatWire ps ≡ bytes w → (length w ≡ length ps * 6) × (Bytes w) × (pathsOf w ≡ map evenEntry ps)
 beat-back ps w h e =
     let g = wire-was ps w e in
     let l : length w ≡ length ps * 6 = ap length (g .2) ∙ joined-length ps in
     let n : length w / 6 ≡ length ps = omega arith in
-    let m : length (pathsOf w) ≡ length ps = paths-length w ∙ n in
-    (l, subst Bytes (sym (g .2)) (joined-bytes ps h (g .0)), ext-getD noPath (pathsOf w) ps m (λ i q. let r : i < length ps = omega arith in paths-at w i (omega arith) ∙ ap (λ (x : List ℕ). entryAt x i) (g .2) ∙ entry-back ps h (g .0) i r))
+    let k : length (map evenEntry ps) ≡ length ps = length-map ps evenEntry in
+    let m : length (pathsOf w) ≡ length (map evenEntry ps) = paths-length w ∙ n ∙ sym k in
+    (l, subst Bytes (sym (g .2)) (joined-bytes ps h (g .0)), ext-getD noPath (pathsOf w) (map evenEntry ps) m (λ i q. let r : i < length ps = omega arith in paths-at w i (omega arith) ∙ ap (λ (x : List ℕ). entryAt x i) (g .2) ∙ entry-back ps h (g .0) i r ∙ sym (even-at ps i)))
 
 -- and the reader takes it, where the list has the places
 pub beat-read : (ps : List RelayPath) (w : List ℕ) (places : ℕ) → beatWire ps ≡ bytes w → length ps ≤ places → beatOf w places ≡ Heartbeat (record { entries = length ps })
@@ -212,7 +218,7 @@ beat-read ps w places e h =
 same : (v : List ℕ) (k : ℕ) → k < length v → (k % 6 ≡ 5 → ⊥) → getD v k 0 ≡ getD (imap entryByte 0 v) k 0
 same v k l h = sym (imap-at entryByte v k l ∙ simp (ne-eqb (k % 6) 5 h))
 
-last : (v : List ℕ) (k : ℕ) → k < length v → k % 6 ≡ 5 → getD v k 0 % 64 ≡ getD (imap entryByte 0 v) k 0
+last : (v : List ℕ) (k : ℕ) → k < length v → k % 6 ≡ 5 → evenByte (getD v k 0) ≡ getD (imap entryByte 0 v) k 0
 last v k l h = sym (imap-at entryByte v k l ∙ simp (eq-eqb (k % 6) 5 h))
 
 -- six bytes of a list at a place
@@ -226,7 +232,7 @@ six-part s k h =
     ∙ listed 6 (take 6 (drop k s)) l
 
 module _ (v : List ℕ) (h : Bytes v) where
-  entry-again : (i : ℕ) → pathWire (entryAt v i) ≡ bytes (getD v (i * 6) 0 ∷ getD v (i * 6 + 1) 0 ∷ getD v (i * 6 + 2) 0 ∷ getD v (i * 6 + 3) 0 ∷ getD v (i * 6 + 4) 0 ∷ getD v (i * 6 + 5) 0 % 64 ∷ [])
+  entry-again : (i : ℕ) → pathWire (entryAt v i) ≡ bytes (getD v (i * 6) 0 ∷ getD v (i * 6 + 1) 0 ∷ getD v (i * 6 + 2) 0 ∷ getD v (i * 6 + 3) 0 ∷ getD v (i * 6 + 4) 0 ∷ evenByte (getD v (i * 6 + 5) 0) ∷ [])
   unfolding entryAt
   entry-again i =
       let k = i * 6 in

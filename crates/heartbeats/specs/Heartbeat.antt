@@ -71,7 +71,7 @@ beatWire ps = unlessRefused (firstOf badEntry ps) (pick (ltb pathMost (length ps
 -- ---- what is asked of a path that reads back: each relay id is four bytes
 
 abbrev pub noPath : RelayPath
-noPath = record { «relay_id» = 0; rssi = pos 0; snr = pos 0 }
+noPath = record { «relay_id» = 0; rssi = pos 0; snr = pos 0; odd = 0 }
 
 abbrev pub FourByteIds : List RelayPath → Type 0
 FourByteIds ps = (i : ℕ) → getD ps i noPath .«relay_id» < 4294967296

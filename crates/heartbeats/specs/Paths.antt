@@ -1,4 +1,5 @@
--- The entries of paths in three lent lists of numbers: as many as the shortest has. Assumes nothing.
+-- The entries of paths in three lent lists of numbers: as many as the shortest has. They are to be written, so no list has odd bits.
+-- Assumes nothing.
 use Prim.Native.Nat.{ℕ, min}
 use mathlib.Core.List.{List, []}
 use lib.Dec.{eqb}
@@ -22,7 +23,7 @@ abbrev pub pathCount : PathLists → ℕ
 pathCount l = min (length (l .ids)) (min (length (l .rssis)) (length (l .snrs)))
 
 abbrev pub pathAt : PathLists → ℕ → RelayPath
-pathAt l i = record { «relay_id» = getD (l .ids) i 0; rssi = getD (l .rssis) i (pos 0); snr = getD (l .snrs) i (pos 0) }
+pathAt l i = record { «relay_id» = getD (l .ids) i 0; rssi = getD (l .rssis) i (pos 0); snr = getD (l .snrs) i (pos 0); odd = 0 }
 
 -- all of them
 unfoldable pub pathsIn : PathLists → List RelayPath

@@ -69,6 +69,7 @@ pub fn entry(i: usize, ids: &[u32], rssis: &[i16], snrs: &[i8]) -> PathBytes
         relay_id: id_at(ids, i),
         rssi: rssi_at(rssis, i),
         snr: snr_at(snrs, i),
+        odd: 0,
     };
     p.to_bytes()
 }

@@ -1,4 +1,4 @@
--- What an accepted edit gives, in closed form: the new header byte, the body with an uplink's two ignored bits as 0, and the MIC over both;
+-- What an accepted edit gives, in closed form: the new header byte, the body with an uplink's odd bits as 0, and the MIC over both;
 -- and what is rewritten in the buffer is that. Assumes nothing.
 use Prim.Native.Nat.{ℕ, zero, suc, _+_, _-_, _%_, _≤_, _<_}
 use native.Mathlib.Omega.{arith}
@@ -28,10 +28,10 @@ use Rattle.packets.specs.declared.mesh.MeshPacket.{MeshPacket}
 use Rattle.packets.specs.declared.mesh.MeshRead.the-variants.{Mesh, Refused}
 use Rattle.round_trips.proofs.Which.{body-length}
 use Rattle.round_trips.proofs.Again.{was-read}
-use Rattle.round_trips.proofs.Same.{body-bytes, clearedBody, body-again, cleared-length}
+use Rattle.round_trips.proofs.Same.{body-bytes, clearedOf, body-again, cleared-length}
 use Rattle.mic.specs.Mic.{micOf, fitting, signedOf, carryingMic, signedBy, setMic}
 use Rattle.hops.specs.Hops.{alone, carryingCount, writtenOf, signedAnew, hopEdit, leaves}
-use Rattle.round_trips.specs.Which.{lowSix}
+use Rattle.fields.specs.Signal.{evenByte, evenAt}
 use Rattle.hops.specs.inner.Steps.{isUplink, renewed, micLaid, rewritten}
 
 -- a message, and the MIC over it
@@ -51,12 +51,12 @@ renewed-length b true s = simp length-set
 renewed-length b false s = simp length-set
 
 -- a renewed frame, up to its MIC
-front-by : (b x : ℕ) (s : List ℕ) (up : Bool) (n : ℕ) → take (suc n) (renewed b up (x ∷ s)) ≡ b ∷ pick up (lowSix (take n s) 3) (take n s)
+front-by : (b x : ℕ) (s : List ℕ) (up : Bool) (n : ℕ) → take (suc n) (renewed b up (x ∷ s)) ≡ b ∷ pick up (evenAt (take n s) 3) (take n s)
 unfolding renewed
-front-by b x s true n = take-anew (suc n) (b ∷ s) 4 (λ (v : ℕ). v % 64)
+front-by b x s true n = take-anew (suc n) (b ∷ s) 4 evenByte
 front-by b x s false n = refl
 
-front : (s : List ℕ) (b : ℕ) (up : Bool) → 5 ≤ length s → take (length s - 4) (renewed b up s) ≡ b ∷ pick up (lowSix (bodyIn s) 3) (bodyIn s)
+front : (s : List ℕ) (b : ℕ) (up : Bool) → 5 ≤ length s → take (length s - 4) (renewed b up s) ≡ b ∷ pick up (evenAt (bodyIn s) 3) (bodyIn s)
 front [] b up h = absurd (omega arith)
 front (x ∷ s) b up h =
     let n = length (x ∷ s) - 4 - 1 in
@@ -82,9 +82,9 @@ module _ (s : List ℕ) (p : MeshPacket) (small : Bytes s) (read : meshOf s ≡ 
 
   -- the body as it is written again
   abbrev pub C : List ℕ
-  C = clearedBody s (was-read s p read .least) (body-bytes s small) none (p .mhdr .«payload_type»)
+  C = clearedOf (p .mhdr .«payload_type») (bodyIn s)
 
-  cleared-by : (t : PayloadType) → pick (isUplink t) (lowSix (bodyIn s) 3) (bodyIn s) ≡ clearedBody s (was-read s p read .least) (body-bytes s small) none t
+  cleared-by : (t : PayloadType) → pick (isUplink t) (evenAt (bodyIn s) 3) (bodyIn s) ≡ clearedOf t (bodyIn s)
   cleared-by Uplink = refl
   cleared-by Downlink = refl
   cleared-by Event = refl
@@ -93,7 +93,7 @@ module _ (s : List ℕ) (p : MeshPacket) (small : Bytes s) (read : meshOf s ≡ 
   pub C-length : length C ≡ length s - 5
   C-length =
       let r = was-read s p read in
-      cleared-length s (r .least) (body-bytes s small) none (p .mhdr .«payload_type») ∙ body-length s (r .least)
+      cleared-length (p .mhdr .«payload_type») (bodyIn s) ∙ body-length s (r .least)
 
   pub wire-is : payloadWire (alone s) (p .payload) ≡ bytes C
   wire-is = let r = was-read s p read in body-again s (r .least) (body-bytes s small) none (p .mhdr .«payload_type») (p .payload) (r .body)

@@ -1,4 +1,4 @@
-// The hop edit, in the received buffer: header byte, an uplink's two ignored bits and the MIC are rewritten where they stand.
+// The hop edit, in the received buffer: header byte, an uplink's odd bits and the MIC are rewritten where they stand.
 ghost use mathlib.Core.Path.{_≡_};
 ghost use Prim.Native.Nat.{_≤_};
 ghost use lib.ListN.{length, take};
@@ -51,7 +51,7 @@ fn mic_at(frame: &[u8]) -> usize
     frame.len() - 4
 }
 
-// The header byte, and of an uplink the two bits that no reader looks at.
+// The header byte, and of an uplink the odd bits, which become 0.
 fn renew(frame: &mut [u8], first: u8, up: bool)
     requires { ⌜ 5 ≤ length (now frame) ⌝ }
     ensures { λ _. ⌜ now (frame .exit) ≡ renewed first up (now (frame .entry)) ⌝ }

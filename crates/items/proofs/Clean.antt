@@ -9,9 +9,9 @@ use lib.ListN.{length, getD, take, drop, length-drop, drop-of-length-le}
 use lib.Seq.{length-take-le, getD-take, getD-drop}
 use borrow.Author.Tests.{leb-true, leb-false, ne-eqb}
 use Rattle.base.specs.Pick.{pick}
-use Rattle.fields.specs.Signal.{ignoredOf}
-use Rattle.fields.specs.Path.{ignoredClear}
-use Rattle.fields.proofs.Laws.Path.{clear-entries}
+use Rattle.fields.specs.Signal.{snrOf}
+use Rattle.fields.specs.Path.{allEven}
+use Rattle.fields.proofs.Laws.Path.{even-entries}
 use Rattle.items.specs.Items.{isBeat, badBeat, Piece, kept, skipped, cut, pieces, itemAt, skippedItems, cutBytes, keptClean, isClean, openingOf, nextOf, walkedTo}
 use Rattle.items.specs.declared.item.Item.{Item}
 use Rattle.items.specs.declared.item.ItemRead.{ItemRead}
@@ -27,8 +27,8 @@ clean-lost ev (cut v ∷ ps) e = absurd (false≢true e)
 
 -- whether a heartbeat that was kept is clean, by the bytes of its value: those that each entry ends with
 module _ (ev : Bool) (s : List ℕ) (at : ℕ) (i : Item) (nx : ℕ) (e : itemAt ev s at ≡ Kept i nx) where
-  abbrev BeatClear : Type 0
-  BeatClear = isBeat ev (i .tag) ≡ true → (k : ℕ) → k * 6 + 6 ≤ i .value .len → ignoredOf (getD s (i .value .start + (k * 6 + 5)) 0) ≡ 0
+  abbrev BeatEven : Type 0
+  BeatEven = isBeat ev (i .tag) ≡ true → (k : ℕ) → k * 6 + 6 ≤ i .value .len → snrOf (getD s (i .value .start + k * 6 + 5) 0) .odd ≡ 0
 
   abbrev value : List ℕ
   value = take (getD s (at + 1) 0) (drop (at + 2) s)
@@ -36,11 +36,13 @@ module _ (ev : Bool) (s : List ℕ) (at : ℕ) (i : Item) (nx : ℕ) (e : itemAt
   long : length value ≡ getD s (at + 1) 0
   long = let u = turn ev s at _ e in length-take-le (getD s (at + 1) 0) (drop (at + 2) s) (simp length-drop (omega arith))
 
-  byte-of : (j : ℕ) → j < getD s (at + 1) 0 → getD value j 0 ≡ getD s (i .value .start + j) 0
-  byte-of j l =
+  odd-of : (k : ℕ) → k * 6 + 5 < getD s (at + 1) 0 → snrOf (getD value (k * 6 + 5) 0) .odd ≡ snrOf (getD s (i .value .start + k * 6 + 5) 0) .odd
+  odd-of k l =
       let u = turn ev s at _ e in
-      getD-take (getD s (at + 1) 0) (drop (at + 2) s) j 0 l ∙ getD-drop (at + 2) s j 0
-      ∙ ap (λ (n : ℕ). getD s (n + j) 0) (sym (ap (λ (x : Item). x .value .start) (u .0)))
+      let start : i .value .start ≡ at + 2 = ap (λ (x : Item). x .value .start) (u .0) in
+      let m : at + 2 + (k * 6 + 5) ≡ i .value .start + k * 6 + 5 = omega arith in
+      ap (λ (b : ℕ). snrOf b .odd)
+      (getD-take (getD s (at + 1) 0) (drop (at + 2) s) (k * 6 + 5) 0 l ∙ getD-drop (at + 2) s (k * 6 + 5) 0 ∙ ap (λ (n : ℕ). getD s n 0) m)
 
   same-length : i .value .len ≡ getD s (at + 1) 0
   same-length = ap (λ (x : Item). x .value .len) (turn ev s at _ e .0)
@@ -48,24 +50,24 @@ module _ (ev : Bool) (s : List ℕ) (at : ℕ) (i : Item) (nx : ℕ) (e : itemAt
   same-tag : i .tag ≡ getD s at 0
   same-tag = ap (λ (x : Item). x .tag) (turn ev s at _ e .0)
 
-  kept-clear : keptClean ev (getD s at 0) value ≡ true → BeatClear
-  kept-clear c b k l =
+  kept-even : keptClean ev (getD s at 0) value ≡ true → BeatEven
+  kept-even c b k l =
       let m = same-length in
       let n = long in
       let t : isBeat ev (getD s at 0) ≡ true = ap (isBeat ev) (sym same-tag) ∙ b in
-      let v : ignoredClear value ≡ true = sym (ap (λ (x : Bool). pick x (ignoredClear value) true) t) ∙ c in
-      ap ignoredOf (sym (byte-of (k * 6 + 5) (omega arith))) ∙ clear-entries value .0 v k (omega arith)
+      let v : allEven value ≡ true = sym (ap (λ (x : Bool). pick x (allEven value) true) t) ∙ c in
+      sym (odd-of k (omega arith)) ∙ even-entries value .0 v k (omega arith)
 
-  clear-kept : BeatClear → keptClean ev (getD s at 0) value ≡ true
-  clear-kept c = by (isBeat ev (getD s at 0)) refl
+  even-kept : BeatEven → keptClean ev (getD s at 0) value ≡ true
+  even-kept c = by (isBeat ev (getD s at 0)) refl
     where
-      by : (t : Bool) → isBeat ev (getD s at 0) ≡ t → pick t (ignoredClear value) true ≡ true
+      by : (t : Bool) → isBeat ev (getD s at 0) ≡ t → pick t (allEven value) true ≡ true
       by true p =
-          clear-entries value .1
+          even-entries value .1
           (λ k l.
           let m = same-length in
           let n = long in
-          ap ignoredOf (byte-of (k * 6 + 5) (omega arith)) ∙ c (ap (isBeat ev) same-tag ∙ p) k (omega arith))
+          odd-of k (omega arith) ∙ c (ap (isBeat ev) same-tag ∙ p) k (omega arith))
       by false p = refl
 
 module _ (ev : Bool) (s : List ℕ) where
@@ -73,8 +75,8 @@ module _ (ev : Bool) (s : List ℕ) where
   rest at = pieces ev 0 (drop at s)
 
   -- of each heartbeat that the reader keeps, from a place on
-  abbrev pub BeatsClear : ℕ → Type 0
-  BeatsClear at = (n : ℕ) (i : Item) (nx : ℕ) (e : itemAt ev s (walkedTo ev s n at) ≡ Kept i nx) → BeatClear ev s (walkedTo ev s n at) i nx e
+  abbrev pub BeatsEven : ℕ → Type 0
+  BeatsEven at = (n : ℕ) (i : Item) (nx : ℕ) (e : itemAt ev s (walkedTo ev s n at) ≡ Kept i nx) → BeatEven ev s (walkedTo ev s n at) i nx e
 
   rest-none : (at : ℕ) → length s ≤ at → rest at ≡ []
   unfolding pieces
@@ -92,21 +94,21 @@ module _ (ev : Bool) (s : List ℕ) where
   clean-walk zero at c = c
   clean-walk (suc n) at c = clean-walk n _ (clean-next at c _ refl)
 
-  clean-beats : (at : ℕ) → isClean ev (rest at) ≡ true → BeatsClear at
+  clean-beats : (at : ℕ) → isClean ev (rest at) ≡ true → BeatsEven at
   clean-beats at c n i nx e =
       let p = walkedTo ev s n at in
-      kept-clear ev s p i nx e
+      kept-even ev s p i nx e
       (and-eq-true-iff (keptClean ev (getD s p 0) (value ev s p i nx e)) (isClean ev (rest nx)) .0 (sym (ap (isClean ev) (turn ev s p _ e .3)) ∙ clean-walk n at c) .0)
 
   step-clean : (n at : ℕ) → length s ≤ at + suc n
-      → ((nx : ℕ) → length s ≤ nx + n → skippedItems (rest nx) ≡ 0 → cutBytes (rest nx) ≡ 0 → BeatsClear nx → isClean ev (rest nx) ≡ true)
-      → (r : ItemRead) → itemAt ev s at ≡ r → skippedItems (rest at) ≡ 0 → cutBytes (rest at) ≡ 0 → BeatsClear at → isClean ev (rest at) ≡ true
+      → ((nx : ℕ) → length s ≤ nx + n → skippedItems (rest nx) ≡ 0 → cutBytes (rest nx) ≡ 0 → BeatsEven nx → isClean ev (rest nx) ≡ true)
+      → (r : ItemRead) → itemAt ev s at ≡ r → skippedItems (rest at) ≡ 0 → cutBytes (rest at) ≡ 0 → BeatsEven at → isClean ev (rest at) ≡ true
   unfolding walkedTo
   step-clean n at h ih (Kept i nx) e p q b =
       let u = turn ev s at _ e in
       let l : length s ≤ nx + n = rw (ap nextOf e) at (nearer ev s n at h) in
       ap (isClean ev) (u .3)
-      ∙ ap₂ _&&_ (clear-kept ev s at i nx e (b 0 i nx e))
+      ∙ ap₂ _&&_ (even-kept ev s at i nx e (b 0 i nx e))
       (ih nx l (sym (ap skippedItems (u .3)) ∙ p) (sym (ap cutBytes (u .3)) ∙ q)
       (λ k j m z. b (suc k) j m (ap (λ (x : ItemRead). itemAt ev s (walkedTo ev s k (nextOf x))) e ∙ z)))
   step-clean n at h ih (Skipped i nx) e p q b = let u = ap skippedItems (turn ev s at _ e .3) in absurd (omega arith)
@@ -115,13 +117,13 @@ module _ (ev : Bool) (s : List ℕ) where
   step-clean n at h ih (End nx) e p q b = ap (isClean ev) (turn ev s at _ e .2)
   step-clean n at h ih (Refused k) e p q b = absurd (turn ev s at _ e)
 
-  whole-clean : (n at : ℕ) → length s ≤ at + n → skippedItems (rest at) ≡ 0 → cutBytes (rest at) ≡ 0 → BeatsClear at → isClean ev (rest at) ≡ true
+  whole-clean : (n at : ℕ) → length s ≤ at + n → skippedItems (rest at) ≡ 0 → cutBytes (rest at) ≡ 0 → BeatsEven at → isClean ev (rest at) ≡ true
   whole-clean zero at h p q b = ap (isClean ev) (rest-none at (omega arith))
   whole-clean (suc n) at h p q b = step-clean n at h (whole-clean n) _ refl p q b
 
   -- a payload is clean exactly if it skipped and cut nothing and each heartbeat that is kept is
-  pub clean-whole : (openingOf ev s .clean ≡ true → (openingOf ev s .skipped ≡ 0) × (openingOf ev s .«cut_bytes» ≡ 0) × BeatsClear 0)
-      × ((openingOf ev s .skipped ≡ 0) × (openingOf ev s .«cut_bytes» ≡ 0) × BeatsClear 0 → openingOf ev s .clean ≡ true)
+  pub clean-whole : (openingOf ev s .clean ≡ true → (openingOf ev s .skipped ≡ 0) × (openingOf ev s .«cut_bytes» ≡ 0) × BeatsEven 0)
+      × ((openingOf ev s .skipped ≡ 0) × (openingOf ev s .«cut_bytes» ≡ 0) × BeatsEven 0 → openingOf ev s .clean ≡ true)
   unfolding openingOf
   clean-whole =
       (λ c. let l = clean-lost ev (pieces ev 0 s) c in (l .0, l .1, clean-beats 0 c), λ a. whole-clean (length s) 0 (omega arith) (a .0) (a .1) (a .2))

@@ -10,7 +10,7 @@ use Rattle.base.specs.Pick.{pick}
 use Rattle.base.specs.Numbers.{frameLong, payloadMost}
 use Rattle.base.specs.Answers.{Answer, value, number}
 use Rattle.wire.specs.declared.run.Run.{Run}
-use Rattle.fields.specs.Path.{ignoredClear}
+use Rattle.fields.specs.Path.{allEven}
 use Rattle.items.specs.declared.item.ItemKind.{ItemKind}
 use Rattle.items.specs.declared.item.ItemKind.the-variants.{Encrypted, Heartbeat, Proprietary}
 use Rattle.items.specs.declared.item.Item.{Item}
@@ -80,9 +80,9 @@ cutBytes (kept t v ∷ ps) = cutBytes ps
 cutBytes (skipped v ∷ ps) = cutBytes ps
 cutBytes (cut v ∷ ps) = length v + cutBytes ps
 
--- the ignored bits of a heartbeat's entries are 0; nothing is asked of any other item
+-- the odd bits of a heartbeat's entries are 0; nothing is asked of any other item
 abbrev pub keptClean : Bool → ℕ → List ℕ → Bool
-keptClean ev t v = pick (isBeat ev t) (ignoredClear v) true
+keptClean ev t v = pick (isBeat ev t) (allEven v) true
 
 -- nothing was skipped or cut, and each item that was kept is clean
 abbrev pub isClean : Bool → List Piece → Bool

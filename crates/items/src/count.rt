@@ -18,7 +18,7 @@ pub struct Opening {
     pub kept_bytes: usize,
     pub skipped_bytes: usize,
     pub cut_bytes: usize,
-    // Nothing was skipped or cut, and no path entry has an ignored bit set: writing the kept items gives the payload back.
+    // Nothing was skipped or cut, and no path entry has odd bits: writing the kept items gives the payload back.
     pub clean: bool,
 }
 
@@ -32,7 +32,7 @@ fn kept_clean(is_event: bool, tag: u8, value: &[u8]) -> bool
     ensures { λ r. ⌜ r ≡ keptClean «is_event» tag (now (value .entry)) ⌝ }
 {
     if is_beat(is_event, tag) {
-        return RelayPath::ignored_clear(value);
+        return RelayPath::all_even(value);
     }
     true
 }

@@ -11,7 +11,7 @@ use borrow.Author.Tests.{leb-true, leb-false}
 use Rattle.base.specs.Pick.{pick}
 use Rattle.base.specs.Lists.{Bytes, imap}
 use Rattle.base.proofs.Lists.{imap-length}
-use Rattle.fields.specs.Path.{ignoredClear}
+use Rattle.fields.specs.Path.{allEven}
 use Rattle.fields.proofs.Laws.Path.{entries-as-written}
 use Rattle.items.specs.Items.{isBeat, badBeat, Piece, kept, skipped, cut, pieces, keptBytes, keptClean, isClean, openingOf}
 use Rattle.items.proofs.Laws.{skip, step, stop, bytes-sum}
@@ -25,7 +25,7 @@ Exactly ev ps s = (isClean ev ps ≡ true → keptWire ev ps ≡ s) × (keptWire
 -- ---- a value
 
 value-clean : (v : List ℕ) (beat : Bool)
-    → (pick beat (ignoredClear v) true ≡ true → imap (fixed beat) 0 v ≡ v) × (imap (fixed beat) 0 v ≡ v → pick beat (ignoredClear v) true ≡ true)
+    → (pick beat (allEven v) true ≡ true → imap (fixed beat) 0 v ≡ v) × (imap (fixed beat) 0 v ≡ v → pick beat (allEven v) true ≡ true)
 unfolding fixed
 value-clean v true = entries-as-written v
 value-clean v false = (λ e. fixed-plain v, λ e. refl)

@@ -6,7 +6,7 @@ use mathlib.Core.Bool.{Bool, true, false}
 use mathlib.Core.Path.{_≡_, refl, sym, ap, ap₂, _∙_}
 use mathlib.Core.List.{List, [], _∷_, _++_}
 use lib.Dec.{ltb}
-use lib.ListN.{length, getD, length-append}
+use lib.ListN.{length, getD, length-append, length-set}
 use borrow.Author.Tests.{ltb-false}
 use Rattle.base.proofs.Lists.{listed}
 use Rattle.base.specs.Pick.{pick}
@@ -14,15 +14,16 @@ use Rattle.base.specs.Lists.{Bytes, from}
 use Rattle.base.specs.Answers.{Writing, bytes, refused}
 use Rattle.wire.specs.Number.{beOf, beBytes}
 use Rattle.wire.proofs.Laws.Number.{be-length, of-bytes, bytes-of}
-use Rattle.fields.specs.Signal.{rssiByte, snrByte}
-use Rattle.fields.specs.Meta.{idBytes, idRefusal, afterRssi, upOf, upWire, downOf, downWire}
+use Rattle.fields.specs.Signal.{evenByte, evenAt, rssiByte, snrByte}
+use Rattle.fields.specs.Meta.{idBytes, idRefusal, afterRssi, upOf, even, upWire, downOf, downWire}
 use Rattle.fields.specs.declared.meta.UplinkMetadata.{UplinkMetadata}
 use Rattle.fields.specs.declared.meta.DownlinkMetadata.{DownlinkMetadata}
 use Rattle.fields.proofs.Laws.Bytes.{none, _▸_, small}
 use Rattle.base.proofs.Answers.{unless-bytes}
-use Rattle.fields.proofs.Laws.Meta.{signals, up-back, up-again, down-back, down-again}
+use Rattle.fields.proofs.Laws.Signal.{even-other}
+use Rattle.fields.proofs.Laws.Meta.{signals, up-back, up-again, up-even, down-back, down-again}
 use Rattle.wire.specs.Run.{runRefusal, runBytes}
-use Rattle.links.specs.Read.{fourAt, uplinkAt, downlinkAt}
+use Rattle.links.specs.Read.{fourAt, uplinkAt, evenUplink, downlinkAt}
 use Rattle.links.specs.Write.{followed, withRun, uplinkHead, downlinkHead}
 use Rattle.wire.specs.declared.run.Run.{Run}
 use Rattle.links.specs.declared.uplink.UplinkPayload.{UplinkPayload}
@@ -75,7 +76,7 @@ downlink-length p w e =
     let g = followed-bytes (downWire (p .metadata)) (beBytes 4 (p .«relay_id»)) w e in
     with-four (g .0) w (p .«relay_id») 6 (g .2) (down-length (p .metadata) (g .0) (g .1))
 
--- ---- reading what was written
+-- ---- reading what was written: without odd bits
 
 -- four bytes by their index, and what they are
 pub four : (v : ℕ) → from 4 0 (λ i. getD (beBytes 4 v) i 0) ≡ beBytes 4 v
@@ -89,7 +90,7 @@ pub spelt : (n : ℕ) (u : List ℕ) (v : ℕ) → length u ≡ n → u ++ beByt
 spelt n u v h = ap₂ {B = List ℕ} (λ (x y : List ℕ). x ++ y) (sym (listed n u h)) (sym (four v))
 
 pub uplink-read-back : (p : UplinkPayload) (h v : List ℕ) (at : ℕ) → uplinkHead p ≡ bytes h → p .metadata .channel < 256 → p .«relay_id» < 4294967296 → length v ≤ 8178
-    → uplinkAt at (h ++ v) ≡ AnUplink (record { metadata = p .metadata; «relay_id» = p .«relay_id»; «phy_payload» = record { start = 9 + at; len = length v } })
+    → uplinkAt at (h ++ v) ≡ AnUplink (record { metadata = even (p .metadata); «relay_id» = p .«relay_id»; «phy_payload» = record { start = 9 + at; len = length v } })
 unfolding uplinkHead
 uplink-read-back p h v at e hc hr hv =
     let g = followed-bytes (upWire (p .metadata)) (beBytes 4 (p .«relay_id»)) h e in
@@ -99,8 +100,8 @@ uplink-read-back p h v at e hc hr hv =
     let b = from 5 0 (λ i. getD u i 0) ++ from 4 0 (λ i. getD r i 0) ++ v in
     let l : length b - 9 ≡ length v = omega arith in
     ap (λ (x : List ℕ). uplinkAt at (x ++ v)) (g .2 ∙ spelt 5 u (p .«relay_id») (k .0))
-    ∙ sym (uplink-is at b (omega arith) (omega arith) (p .metadata) (p .«relay_id») (sym (ap upOf (listed 5 u (k .0)) ∙ k .2)) (sym (four-is (p .«relay_id») hr)))
-    ∙ ap (λ (n : ℕ). AnUplink (record { metadata = p .metadata; «relay_id» = p .«relay_id»; «phy_payload» = record { start = 9 + at; len = n } })) l
+    ∙ sym (uplink-is at b (omega arith) (omega arith) (even (p .metadata)) (p .«relay_id») (sym (ap upOf (listed 5 u (k .0)) ∙ k .2)) (sym (four-is (p .«relay_id») hr)))
+    ∙ ap (λ (n : ℕ). AnUplink (record { metadata = even (p .metadata); «relay_id» = p .«relay_id»; «phy_payload» = record { start = 9 + at; len = n } })) l
 
 pub downlink-read-back : (p : DownlinkPayload) (h v : List ℕ) (at : ℕ) → downlinkHead p ≡ bytes h → p .«relay_id» < 4294967296 → length v ≤ 8177
     → downlinkAt at (h ++ v) ≡ ADownlink (record { metadata = p .metadata; «relay_id» = p .«relay_id»; «phy_payload» = record { start = 10 + at; len = length v } })
@@ -138,9 +139,22 @@ module _ (at : ℕ) (b : List ℕ) where
       let t = third (ltb 8187 (length b)) (ltb (length b) 9) _ _ _ (AnUplink p) (λ q. let z : _≡_ {A = ℕ} 0 1 = cc in omega arith) (λ q. let z : _≡_ {A = ℕ} 0 1 = cc in omega arith) e in
       record { most = ltb-false _ _ (t .0); least = ltb-false _ _ (t .1); meta-is = cc; relay-is = cc; run-is = cc }
 
-  -- the same bytes, the two bits above the snr cleared
+  -- without its odd bits a body is read alike, but for them
+  pub uplink-even : (p : UplinkPayload) → uplinkAt at b ≡ AnUplink p → uplinkAt at (evenAt b 3) ≡ AnUplink (evenUplink p)
+  uplink-even p e =
+      let w = uplink-was p e in
+      let l = w .least in
+      let c = evenAt b 3 in
+      let n : length c ≡ length b = length-set b 3 (evenByte (getD b 3 0)) in
+      let o = even-other b 3 in
+      let r : p .«relay_id» ≡ fourAt c 5 = rw (o 5 (λ z. omega arith), o 6 (λ z. omega arith), o 7 (λ z. omega arith), o 8 (λ z. omega arith)) (w .relay-is) in
+      sym (uplink-is at c (rw n (w .most)) (rw n l) (even (p .metadata)) (p .«relay_id») (ap even (w .meta-is) ∙ sym (up-even b (omega arith))) r)
+      ∙ ap (λ (x : Run). AnUplink (record { metadata = even (p .metadata); «relay_id» = p .«relay_id»; «phy_payload» = x }))
+      (ap (λ (k : ℕ). record { start = 9 + at; len = k - 9 }) n ∙ sym (w .run-is))
+
+  -- the same bytes, the odd bits cleared
   pub uplink-again : (p : UplinkPayload) → Bytes b → uplinkAt at b ≡ AnUplink p
-      → uplinkHead p ≡ bytes (getD b 0 0 ∷ getD b 1 0 ∷ getD b 2 0 ∷ (getD b 3 0 % 64) ∷ getD b 4 0 ∷ getD b 5 0 ∷ getD b 6 0 ∷ getD b 7 0 ∷ getD b 8 0 ∷ [])
+      → uplinkHead p ≡ bytes (getD b 0 0 ∷ getD b 1 0 ∷ getD b 2 0 ∷ evenByte (getD b 3 0) ∷ getD b 4 0 ∷ getD b 5 0 ∷ getD b 6 0 ∷ getD b 7 0 ∷ getD b 8 0 ∷ [])
   unfolding uplinkHead
   uplink-again p h e =
       let w = uplink-was p e in

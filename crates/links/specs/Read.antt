@@ -7,7 +7,7 @@ use Rattle.base.specs.Pick.{pick}
 use Rattle.base.specs.Numbers.{frameLong, bodyShort, bodyMost}
 use Rattle.base.specs.Answers.{Answer, value, number}
 use Rattle.wire.specs.Number.{beOf}
-use Rattle.fields.specs.Meta.{upOf, downOf}
+use Rattle.fields.specs.Meta.{upOf, even, downOf}
 use Rattle.links.specs.declared.uplink.UplinkPayload.{UplinkPayload}
 use Rattle.links.specs.declared.uplink.UplinkRead.{UplinkRead}
 use Rattle.links.specs.declared.uplink.UplinkRead.the-variants.{Payload as AnUplink, Refused as NoUplink}
@@ -29,6 +29,10 @@ uplinkAt at b =
       «relay_id» = fourAt b 5;
       «phy_payload» = record { start = 9 + at; len = length b - 9 };
     })))
+
+-- without the odd bits
+abbrev pub evenUplink : UplinkPayload → UplinkPayload
+evenUplink u = record { metadata = even (u .metadata); «relay_id» = u .«relay_id»; «phy_payload» = u .«phy_payload» }
 
 unfoldable pub downlinkAt : ℕ → List ℕ → DownlinkRead
 downlinkAt at b =

@@ -186,11 +186,12 @@ mesh-frequency-write : Fixed 1 mesh-frequency-write-kinds.ps mesh-frequency-writ
 mesh-frequency-write κs a x y v w p q =
     (p .0 ∙ sym (q .0), ap (λ (a : List ℕ). (tt, (a, tt))) (p .1 ∙ sym (q .1)))
 
-mesh-path-read : Fixed 4 mesh-path-read-kinds.ps mesh-path-read-kinds.r mesh-path-read-reads.Post
+mesh-path-read : Fixed 5 mesh-path-read-kinds.ps mesh-path-read-kinds.r mesh-path-read-reads.Post
 mesh-path-read κs a x y v w p q = (
   refl,
-  ap (λ (a : ℕ). (tt, (a, (v .1 .1 .0, (v .1 .1 .1 .0, tt))))) (p .0 ∙ sym (q .0))
-      ∙ ap₂ (λ (b : ℤ) (c : ℤ). (tt, (w .1 .0, (b, (c, tt))))) (p .1 .0 ∙ sym (q .1 .0)) (p .1 .1 ∙ sym (q .1 .1)),
+  ap (λ (a : ℕ). (tt, (a, (v .1 .1 .0, (v .1 .1 .1 .0, (v .1 .1 .1 .1 .0, tt)))))) (p .0 ∙ sym (q .0))
+      ∙ ap₂ (λ (b : ℤ) (c : ℤ). (tt, (w .1 .0, (b, (c, (v .1 .1 .1 .1 .0, tt)))))) (p .1 .0 ∙ sym (q .1 .0)) (p .1 .1 .0 ∙ sym (q .1 .1 .0))
+      ∙ ap (λ (a : ℕ). (tt, (w .1 .0, (w .1 .1 .0, (w .1 .1 .1 .0, (a, tt)))))) (p .1 .1 .1 ∙ sym (q .1 .1 .1)),
 )
 
 mesh-path-write : Fixed 1 mesh-path-write-kinds.ps mesh-path-write-kinds.r mesh-path-write-reads.Post
@@ -221,11 +222,12 @@ mesh-heartbeat : Fixed 2 mesh-heartbeat-kinds.ps mesh-heartbeat-kinds.r mesh-hea
 mesh-heartbeat κs a x y v w p q =
     (p .0 ∙ sym (q .0), ap (λ (a : ℕ). (tt, (tt, (a, tt)))) (p .1 ∙ sym (q .1)))
 
-mesh-heartbeat-entry : Fixed 4 mesh-heartbeat-entry-kinds.ps mesh-heartbeat-entry-kinds.r mesh-heartbeat-entry-reads.Post
+mesh-heartbeat-entry : Fixed 5 mesh-heartbeat-entry-kinds.ps mesh-heartbeat-entry-kinds.r mesh-heartbeat-entry-reads.Post
 mesh-heartbeat-entry κs a x y v w p q = (
   p .0 ∙ sym (q .0),
-  ap (λ (a : ℕ). (tt, (tt, (a, (v .1 .1 .1 .0, (v .1 .1 .1 .1 .0, tt)))))) (p .1 .0 ∙ sym (q .1 .0))
-      ∙ ap₂ (λ (b : ℤ) (c : ℤ). (tt, (tt, (w .1 .1 .0, (b, (c, tt)))))) (p .1 .1 .0 ∙ sym (q .1 .1 .0)) (p .1 .1 .1 ∙ sym (q .1 .1 .1)),
+  ap (λ (a : ℕ). (tt, (tt, (a, (v .1 .1 .1 .0, (v .1 .1 .1 .1 .0, (v .1 .1 .1 .1 .1 .0, tt))))))) (p .1 .0 ∙ sym (q .1 .0))
+      ∙ ap₂ (λ (b : ℤ) (c : ℤ). (tt, (tt, (w .1 .1 .0, (b, (c, (v .1 .1 .1 .1 .1 .0, tt))))))) (p .1 .1 .0 ∙ sym (q .1 .1 .0)) (p .1 .1 .1 .0 ∙ sym (q .1 .1 .1 .0))
+      ∙ ap (λ (a : ℕ). (tt, (tt, (w .1 .1 .0, (w .1 .1 .1 .0, (w .1 .1 .1 .1 .0, (a, tt))))))) (p .1 .1 .1 .1 ∙ sym (q .1 .1 .1 .1)),
 )
 
 mesh-item-write : Fixed 3 mesh-item-write-kinds.ps mesh-item-write-kinds.r mesh-item-write-reads.Post

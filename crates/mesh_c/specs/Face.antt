@@ -48,7 +48,7 @@ use Rattle.cache_words.specs.inner.Packed.{addAnswer, addWords}
 
 -- the version of the declarations in include/mesh.h
 abbrev pub faceVersion : ℕ
-faceVersion = 5
+faceVersion = 6
 
 -- ---- keys, fields and items
 
@@ -68,7 +68,7 @@ headerByteBy hops (Kind t) = headerByte (record { «payload_type» = t; «hop_co
 headerByteBy hops (NoKind n) = NoByte n
 
 abbrev pub upList : UplinkMetadata → List ℕ
-upList m = m .«uplink_id» ∷ m .dr ∷ m .channel ∷ []
+upList m = m .«uplink_id» ∷ m .dr ∷ m .channel ∷ m .odd ∷ []
 
 abbrev pub downList : DownlinkMetadata → List ℕ
 downList m = m .«uplink_id» ∷ m .dr ∷ m .frequency ∷ m .«tx_power» ∷ m .delay ∷ []
@@ -98,6 +98,9 @@ entryRssi p = p .rssi
 
 abbrev pub entrySnr : RelayPath → ℤ
 entrySnr p = p .snr
+
+abbrev pub entryOdd : RelayPath → ℕ
+entryOdd p = p .odd
 
 -- ---- what is done to the packet that numbers stand for; 29 where they stand for none
 

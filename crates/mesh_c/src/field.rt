@@ -96,11 +96,11 @@ pub extern "C" fn mesh_header_write(type_code: u8, hop_count: u8, b: &mut u8) ->
     }
 }
 
-// Uplink id, data rate and channel; rssi and snr. Every five bytes are read.
+// Uplink id, data rate, channel and odd bits; rssi and snr. Every five bytes are read.
 #[no_mangle]
 pub extern "C" fn mesh_uplink_metadata_read(
     b: &[u8; 5],
-    numbers: &mut [u64; 3],
+    numbers: &mut [u64; 4],
     rssi: &mut i16,
     snr: &mut i8,
 )
@@ -109,14 +109,19 @@ pub extern "C" fn mesh_uplink_metadata_read(
     ensures snr { λ _. ⌜ now (snr .exit) ≡ upOf (now (b .entry)) .snr ⌝ }
 {
     let m = UplinkMetadata::from_bytes(*b);
-    *numbers = [from_u16(m.uplink_id), from_u8(m.dr), from_u8(m.channel)];
+    *numbers = [
+        from_u16(m.uplink_id),
+        from_u8(m.dr),
+        from_u8(m.channel),
+        from_u8(m.odd),
+    ];
     let strength = m.rssi;
     let ratio = m.snr;
     *rssi = strength;
     *snr = ratio;
 }
 
-// 0, or 8 to 13 in their order.
+// 0, or 8 to 13 in their order. Odd bits are not written.
 #[no_mangle]
 pub extern "C" fn mesh_uplink_metadata_write(
     uplink_id: u16,
@@ -126,8 +131,8 @@ pub extern "C" fn mesh_uplink_metadata_write(
     channel: u8,
     b: &mut [u8; 5],
 ) -> u8
-    ensures answer { λ r. ⌜ r ≡ numberIn (checkedSays (upBytes (record { «uplink_id» = «uplink_id»; dr = dr; rssi = rssi; snr = snr; channel = channel }) .answer) (upBytes (record { «uplink_id» = «uplink_id»; dr = dr; rssi = rssi; snr = snr; channel = channel }) .bytes)) ⌝ }
-    ensures b { λ _. ⌜ now (b .exit) ≡ leftBy asItIs (now (b .entry)) (checkedSays (upBytes (record { «uplink_id» = «uplink_id»; dr = dr; rssi = rssi; snr = snr; channel = channel }) .answer) (upBytes (record { «uplink_id» = «uplink_id»; dr = dr; rssi = rssi; snr = snr; channel = channel }) .bytes)) ⌝ }
+    ensures answer { λ r. ⌜ r ≡ numberIn (checkedSays (upBytes (record { «uplink_id» = «uplink_id»; dr = dr; rssi = rssi; snr = snr; channel = channel; odd = 0 }) .answer) (upBytes (record { «uplink_id» = «uplink_id»; dr = dr; rssi = rssi; snr = snr; channel = channel; odd = 0 }) .bytes)) ⌝ }
+    ensures b { λ _. ⌜ now (b .exit) ≡ leftBy asItIs (now (b .entry)) (checkedSays (upBytes (record { «uplink_id» = «uplink_id»; dr = dr; rssi = rssi; snr = snr; channel = channel; odd = 0 }) .answer) (upBytes (record { «uplink_id» = «uplink_id»; dr = dr; rssi = rssi; snr = snr; channel = channel; odd = 0 }) .bytes)) ⌝ }
 {
     let m = UplinkMetadata {
         uplink_id,
@@ -135,6 +140,7 @@ pub extern "C" fn mesh_uplink_metadata_write(
         rssi,
         snr,
         channel,
+        odd: 0,
     };
     let made = m.to_bytes();
     let answer = made.answer;
@@ -228,31 +234,40 @@ pub extern "C" fn mesh_frequency_write(hertz: u32, b: &mut [u8; 3]) -> u8
     }
 }
 
-// A path entry: relay id; rssi and snr.
+// A path entry: relay id; rssi, snr and odd bits.
 #[no_mangle]
-pub extern "C" fn mesh_path_read(b: &[u8; 6], relay_id: &mut u32, rssi: &mut i16, snr: &mut i8)
+pub extern "C" fn mesh_path_read(
+    b: &[u8; 6],
+    relay_id: &mut u32,
+    rssi: &mut i16,
+    snr: &mut i8,
+    odd: &mut u8,
+)
     ensures relay_id { λ _. ⌜ now («relay_id» .exit) ≡ pathOf (now (b .entry)) .«relay_id» ⌝ }
     ensures rssi { λ _. ⌜ now (rssi .exit) ≡ pathOf (now (b .entry)) .rssi ⌝ }
     ensures snr { λ _. ⌜ now (snr .exit) ≡ pathOf (now (b .entry)) .snr ⌝ }
+    ensures odd { λ _. ⌜ now (odd .exit) ≡ pathOf (now (b .entry)) .odd ⌝ }
 {
     let p = RelayPath::from_bytes(*b);
     *relay_id = p.relay_id;
+    *odd = p.odd;
     let strength = p.rssi;
     let ratio = p.snr;
     *rssi = strength;
     *snr = ratio;
 }
 
-// 0, or 10 to 13.
+// 0, or 10 to 13. Odd bits are not written.
 #[no_mangle]
 pub extern "C" fn mesh_path_write(relay_id: u32, rssi: i16, snr: i8, b: &mut [u8; 6]) -> u8
-    ensures answer { λ r. ⌜ r ≡ numberIn (checkedSays (pathBytes (record { «relay_id» = «relay_id»; rssi = rssi; snr = snr }) .answer) (pathBytes (record { «relay_id» = «relay_id»; rssi = rssi; snr = snr }) .bytes)) ⌝ }
-    ensures b { λ _. ⌜ now (b .exit) ≡ leftBy asItIs (now (b .entry)) (checkedSays (pathBytes (record { «relay_id» = «relay_id»; rssi = rssi; snr = snr }) .answer) (pathBytes (record { «relay_id» = «relay_id»; rssi = rssi; snr = snr }) .bytes)) ⌝ }
+    ensures answer { λ r. ⌜ r ≡ numberIn (checkedSays (pathBytes (record { «relay_id» = «relay_id»; rssi = rssi; snr = snr; odd = 0 }) .answer) (pathBytes (record { «relay_id» = «relay_id»; rssi = rssi; snr = snr; odd = 0 }) .bytes)) ⌝ }
+    ensures b { λ _. ⌜ now (b .exit) ≡ leftBy asItIs (now (b .entry)) (checkedSays (pathBytes (record { «relay_id» = «relay_id»; rssi = rssi; snr = snr; odd = 0 }) .answer) (pathBytes (record { «relay_id» = «relay_id»; rssi = rssi; snr = snr; odd = 0 }) .bytes)) ⌝ }
 {
     let p = RelayPath {
         relay_id,
         rssi,
         snr,
+        odd: 0,
     };
     let made = p.to_bytes();
     let answer = made.answer;

@@ -7,7 +7,7 @@ ghost use Rattle.heartbeats.specs.Paths.{paths, pathsIn};
 ghost use Rattle.items.specs.Items.{countsOf, countsSay, bareItemAt, itemSays};
 ghost use Rattle.composed_items.specs.One.{oneWire};
 ghost use Rattle.key_stream.specs.Stream.{sealedOf};
-ghost use Rattle.mesh_c.specs.Face.{asItIs, countList, itemList, foundList, entriesIn, entryRelay, entryRssi, entrySnr};
+ghost use Rattle.mesh_c.specs.Face.{asItIs, countList, itemList, foundList, entriesIn, entryRelay, entryRssi, entrySnr, entryOdd};
 use crate::field::from_u8;
 use base::Written;
 use composed_items::write_item;
@@ -199,16 +199,19 @@ pub extern "C" fn mesh_heartbeat_entry(
     relay_id: &mut u32,
     rssi: &mut i16,
     snr: &mut i8,
+    odd: &mut u8,
 ) -> u8
     ensures answer { λ r. ⌜ r ≡ numberIn (pathSays (entryRead (now (value .entry)) i)) ⌝ }
     ensures relay_id { λ _. ⌜ now («relay_id» .exit) ≡ leftBy entryRelay (now («relay_id» .entry)) (pathSays (entryRead (now (value .entry)) i)) ⌝ }
     ensures rssi { λ _. ⌜ now (rssi .exit) ≡ leftBy entryRssi (now (rssi .entry)) (pathSays (entryRead (now (value .entry)) i)) ⌝ }
     ensures snr { λ _. ⌜ now (snr .exit) ≡ leftBy entrySnr (now (snr .entry)) (pathSays (entryRead (now (value .entry)) i)) ⌝ }
+    ensures odd { λ _. ⌜ now (odd .exit) ≡ leftBy entryOdd (now (odd .entry)) (pathSays (entryRead (now (value .entry)) i)) ⌝ }
 {
     match HeartbeatPayload::entry(value, i as usize) {
         PathRead::Refused(n) => n,
         PathRead::Entry(p) => {
             *relay_id = p.relay_id;
+            *odd = p.odd;
             let strength = p.rssi;
             let ratio = p.snr;
             *rssi = strength;

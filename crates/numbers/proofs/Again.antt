@@ -41,6 +41,7 @@ pub record Fits (ns : List ℕ) : Type 0 where
   pub power : getD ns 10 0 ≤ 255
   pub delay : getD ns 11 0 ≤ 255
   pub time : getD ns 12 0 ≤ 4294967295
+  pub odd : getD ns 16 0 ≤ 255
 
 at-most : (most n : ℕ) → n ≤ most → atMost most n ≡ n
 unfolding atMost
@@ -110,7 +111,7 @@ module _ (h : MHDR) (has : Bool) (mic : ℕ) where
   unfolding meshNumbers
   payload-back (AnUplink u) f =
       reads (AnUplink u) Uplink f (strange (AnUplink u)) refl
-      ∙ rw (at-most 255 (h .«hop_count») (f .hops), at-most 4294967295 mic (f .mic), bit-back has, at-most 4294967295 (u .«relay_id») (f .relay), at-most 65535 (u .metadata .«uplink_id») (f .id), at-most 255 (u .metadata .dr) (f .dr), at-most 255 (u .metadata .channel) (f .channel)) refl
+      ∙ rw (at-most 255 (h .«hop_count») (f .hops), at-most 4294967295 mic (f .mic), bit-back has, at-most 4294967295 (u .«relay_id») (f .relay), at-most 65535 (u .metadata .«uplink_id») (f .id), at-most 255 (u .metadata .dr) (f .dr), at-most 255 (u .metadata .channel) (f .channel), at-most 255 (u .metadata .odd) (f .odd)) refl
   payload-back (ADownlink u) f =
       reads (ADownlink u) Downlink f (strange (ADownlink u)) refl
       ∙ rw (at-most 255 (h .«hop_count») (f .hops), at-most 4294967295 mic (f .mic), bit-back has, at-most 4294967295 (u .«relay_id») (f .relay), at-most 65535 (u .metadata .«uplink_id») (f .id), at-most 255 (u .metadata .dr) (f .dr), at-most 4294967295 (u .metadata .frequency) (f .frequency), at-most 255 (u .metadata .«tx_power») (f .power), at-most 255 (u .metadata .delay) (f .delay)) refl

@@ -164,7 +164,7 @@ three (Items n) = refl
 
 pub stamped-is : (kind : ℕ) (h : MHDR) (has : Bool) (mic relay time : ℕ) (b : Content) (t f : ℕ) (p : List ℕ) → t ≡ codeOf (h .«payload_type») → f ≡ bit has
     → p ≡ contentPlace b
-    → kind ∷ t ∷ h .«hop_count» ∷ f ∷ mic ∷ relay ∷ 0 ∷ 0 ∷ 0 ∷ 0 ∷ 0 ∷ 0 ∷ time ∷ getD p 0 0 ∷ getD p 1 0 ∷ getD p 2 0 ∷ []
-    ≡ listed kind h has mic (stampedFields relay time) (contentPlace b)
+    → kind ∷ t ∷ h .«hop_count» ∷ f ∷ mic ∷ relay ∷ 0 ∷ 0 ∷ 0 ∷ 0 ∷ 0 ∷ 0 ∷ time ∷ getD p 0 0 ∷ getD p 1 0 ∷ getD p 2 0 ∷ 0 ∷ []
+    ≡ listed kind h has mic (stampedFields relay time) (contentPlace b) 0
 stamped-is kind h has mic relay time b t f p x y e =
-    rw (x, y, e) (ap (listed kind h has mic (stampedFields relay time)) (three b))
+    rw (x, y, e) (ap (λ (l : List ℕ). listed kind h has mic (stampedFields relay time) l 0) (three b))

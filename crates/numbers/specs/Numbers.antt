@@ -1,5 +1,5 @@
 -- A packet as numbers, and back. They are, in their order: kind, payload_type, hop_count, has_mic, mic, relay_id, uplink_id, dr, channel,
--- frequency, tx_power, delay, timestamp, content, start, len. Beside them stand rssi and snr. Assumes nothing.
+-- frequency, tx_power, delay, timestamp, content, start, len, odd. Beside them stand rssi and snr. Assumes nothing.
 use Prim.Native.Nat.{ℕ}
 use mathlib.Core.Bool.{Bool, true, false, not}
 use mathlib.Core.List.{List, [], _∷_, _++_}
@@ -25,7 +25,7 @@ use Rattle.links.specs.Read.{uplinkAt, downlinkAt}
 use Rattle.links.specs.declared.uplink.UplinkPayload.{UplinkPayload}
 use Rattle.links.specs.declared.downlink.DownlinkPayload.{DownlinkPayload}
 use Rattle.events.specs.Read.{eventAt, commandAt}
-use Rattle.packets.specs.Read.{ofUplink, ofDownlink, ofEvent, ofCommand, ofMesh}
+use Rattle.packets.specs.Read.{ofUplink, ofDownlink, ofEvent, ofCommand, ofMesh, oddIn}
 use Rattle.packets.specs.Write.{packetFrame}
 use Rattle.packets.specs.declared.mesh.Payload.{Payload}
 use Rattle.packets.specs.declared.mesh.Payload.the-variants.{Uplink as AnUplink, Downlink as ADownlink, Event as AnEvent, Command as ACommand}
@@ -77,15 +77,15 @@ payloadKind (ADownlink u) = 1
 payloadKind (AnEvent u) = 2
 payloadKind (ACommand u) = 3
 
-abbrev pub listed : ℕ → MHDR → Bool → ℕ → List ℕ → List ℕ → List ℕ
-listed kind h has mic fields place = kind ∷ codeOf (h .«payload_type») ∷ h .«hop_count» ∷ bit has ∷ mic ∷ (fields ++ place)
+abbrev pub listed : ℕ → MHDR → Bool → ℕ → List ℕ → List ℕ → ℕ → List ℕ
+listed kind h has mic fields place odd = kind ∷ codeOf (h .«payload_type») ∷ h .«hop_count» ∷ bit has ∷ mic ∷ (fields ++ place ++ (odd ∷ []))
 
 unfoldable pub meshNumbers : MeshPacket → List ℕ
-meshNumbers p = listed (payloadKind (p .payload)) (p .mhdr) (p .«has_mic») (p .mic) (payloadFields (p .payload)) (payloadPlace (p .payload))
+meshNumbers p = listed (payloadKind (p .payload)) (p .mhdr) (p .«has_mic») (p .mic) (payloadFields (p .payload)) (payloadPlace (p .payload)) (oddIn (p .payload))
 
 unfoldable pub numbersIn : Packet → List ℕ
 numbersIn (AMesh p) = meshNumbers p
-numbersIn (Lora r) = 4 ∷ 0 ∷ 0 ∷ 0 ∷ 0 ∷ 0 ∷ 0 ∷ 0 ∷ 0 ∷ 0 ∷ 0 ∷ 0 ∷ 0 ∷ 0 ∷ r .start ∷ r .len ∷ []
+numbersIn (Lora r) = 4 ∷ 0 ∷ 0 ∷ 0 ∷ 0 ∷ 0 ∷ 0 ∷ 0 ∷ 0 ∷ 0 ∷ 0 ∷ 0 ∷ 0 ∷ 0 ∷ r .start ∷ r .len ∷ 0 ∷ []
 
 abbrev pub payloadRssi : Payload → ℤ
 payloadRssi (AnUplink u) = u .metadata .rssi
@@ -168,6 +168,7 @@ uplinkFrom ns rssi snr =
         rssi = rssi;
         snr = snr;
         channel = atMost 255 (getD ns 8 0);
+        odd = atMost 255 (getD ns 16 0);
       };
       «relay_id» = atMost 4294967295 (getD ns 5 0);
       «phy_payload» = runFrom ns;

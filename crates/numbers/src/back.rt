@@ -141,6 +141,7 @@ pub(crate) fn uplink_of(numbers: &PacketNumbers, rssi: i16, snr: i8) -> UplinkPa
             rssi,
             snr,
             channel: to_u8(numbers[8]),
+            odd: to_u8(numbers[16]),
         },
         relay_id: to_u32(numbers[5]),
         phy_payload: run_of(numbers),

@@ -23,7 +23,7 @@ pub use read::read_numbers;
 pub use write::write_numbers;
 
 // A packet's numbers.
-pub type PacketNumbers = [u64; 16];
+pub type PacketNumbers = [u64; 17];
 
 // The codes that no type of the crates below has.
 pub struct Code;

@@ -52,6 +52,7 @@ fn uplink_numbers(mhdr: MHDR, has_mic: bool, mic: u32, u: UplinkPayload) -> Pack
         0,
         run.start as u64,
         run.len as u64,
+        m.odd as u64,
     ]
 }
 
@@ -78,6 +79,7 @@ fn downlink_numbers(mhdr: MHDR, has_mic: bool, mic: u32, u: DownlinkPayload) -> 
         0,
         run.start as u64,
         run.len as u64,
+        0,
     ]
 }
 
@@ -106,7 +108,7 @@ fn stamped_numbers(
     relay_id: u32,
     b: Content,
 ) -> PacketNumbers
-    ensures { λ r. ⌜ r ≡ listed kind mhdr «has_mic» mic (stampedFields «relay_id» timestamp) (contentPlace b) ⌝ }
+    ensures { λ r. ⌜ r ≡ listed kind mhdr «has_mic» mic (stampedFields «relay_id» timestamp) (contentPlace b) 0 ⌝ }
 {
     let t = mhdr.payload_type;
     let place = content_place(b);
@@ -127,6 +129,7 @@ fn stamped_numbers(
         place[0],
         place[1],
         place[2],
+        0,
     ]
 }
 
@@ -272,6 +275,7 @@ pub fn read_numbers(frame: &[u8], numbers: &mut PacketNumbers, rssi: &mut i16, s
         0,
         0,
         n as u64,
+        0,
     ];
     *rssi = 0;
     *snr = 0;

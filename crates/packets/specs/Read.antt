@@ -13,7 +13,7 @@ use Rattle.fields.specs.declared.header.PayloadType.{PayloadType}
 use Rattle.fields.specs.declared.header.PayloadType.the-variants.{Uplink, Downlink, Event, Command}
 use Rattle.fields.specs.declared.header.HeaderRead.{HeaderRead}
 use Rattle.fields.specs.declared.header.HeaderRead.the-variants.{Header, Refused as NoHeader}
-use Rattle.links.specs.Read.{fourAt, uplinkAt, downlinkAt}
+use Rattle.links.specs.Read.{fourAt, uplinkAt, evenUplink, downlinkAt}
 use Rattle.events.specs.Read.{eventAt, commandAt}
 use Rattle.links.specs.declared.uplink.UplinkRead.{UplinkRead}
 use Rattle.links.specs.declared.uplink.UplinkRead.the-variants.{Payload as UplinkIs, Refused as NoUplink}
@@ -90,6 +90,22 @@ packetOf s =
 -- the packet as it was, but for the payload
 abbrev pub carrying : MeshPacket → Payload → MeshPacket
 carrying p q = record { mhdr = p .mhdr; payload = q; «has_mic» = p .«has_mic»; mic = p .mic }
+
+-- an uplink's odd bits, which no other kind has; and without them
+abbrev pub oddIn : Payload → ℕ
+oddIn (AnUplink u) = u .metadata .odd
+oddIn (ADownlink u) = 0
+oddIn (AnEvent u) = 0
+oddIn (ACommand u) = 0
+
+abbrev pub evenPayload : Payload → Payload
+evenPayload (AnUplink u) = AnUplink (evenUplink u)
+evenPayload (ADownlink u) = ADownlink u
+evenPayload (AnEvent u) = AnEvent u
+evenPayload (ACommand u) = ACommand u
+
+abbrev pub evenMesh : MeshPacket → MeshPacket
+evenMesh p = carrying p (evenPayload (p .payload))
 
 -- the refusal's number, or the value
 abbrev pub meshSays : MeshRead → Answer MeshPacket

@@ -21,6 +21,7 @@ use Rattle.cmac_chain.specs.inner.State.{begun, absorb1, finished}
 use Rattle.cmac_chain.proofs.Laws.{pieces, tag-same}
 use Rattle.key_stream.specs.Stream.{streamBlock, sealedOf}
 use Rattle.key_stream.proofs.Laws.{block-1, block-256, repeats, seal-twice}
+use Rattle.fields.specs.Meta.{even}
 use Rattle.fields.specs.declared.header.PayloadType.the-variants.{Uplink, Downlink, Event, Command}
 use Rattle.items.specs.Items.{openingOf}
 use Rattle.items.proofs.Laws.{bytes-sum}
@@ -30,7 +31,7 @@ use Rattle.links.specs.declared.uplink.UplinkPayload.{UplinkPayload}
 use Rattle.links.specs.declared.downlink.DownlinkPayload.{DownlinkPayload}
 use Rattle.events.specs.declared.stamped.EventPayload.{EventPayload}
 use Rattle.events.specs.declared.stamped.CommandPayload.{CommandPayload}
-use Rattle.packets.specs.Read.{meshOf, packetOf, ofMesh, meshSays, packetSays, carrying}
+use Rattle.packets.specs.Read.{meshOf, packetOf, ofMesh, meshSays, packetSays, carrying, oddIn, evenMesh}
 use Rattle.packets.specs.Write.{meshFrame, loraFrame, packetFrame}
 use Rattle.packets.specs.declared.mesh.Payload.the-variants as payload
 use Rattle.packets.specs.declared.mesh.MeshPacket.{MeshPacket}
@@ -43,6 +44,7 @@ use Rattle.sealing.proofs.Laws as sealed
 use Rattle.round_trips.specs.Which.{meshNumber, packetNumber, cleared}
 use Rattle.round_trips.proofs.Which.{which}
 use Rattle.round_trips.proofs.Same.{again}
+use Rattle.round_trips.proofs.Even.{frame-even, same-exactly}
 use Rattle.round_trips.proofs.Back.{uplink-back, downlink-back, event-back, command-back, lora-back, lora-again}
 use Rattle.cache.specs.Cache.{sameRecord, answersLast, addSays}
 use Rattle.cache.specs.inner.Ring.{ringAnswers, newOf}
@@ -100,18 +102,26 @@ packet-reader-refuses s n e = says-number n (packetSays (packetOf s)) (packet-re
 
 -- ---- reading and writing
 
--- what is read is written as the same bytes, but for an uplink's two ignored bits, whatever else is lent; a LoRa frame as the same bytes
+-- what is read is written as the same bytes, but for an uplink's odd bits, whatever else is lent; a LoRa frame as the same bytes
 pub read-then-written : (s : List ℕ) (x : Lists) (p : MeshPacket) → Bytes s → meshSays (meshOf s) ≡ value p → meshFrame (framed s x) p ≡ bytes (cleared s)
 read-then-written s x p b e = again s x p b (mesh-said (meshOf s) p e)
+
+-- 5.7: without its odd bits a frame is read as the same packet without them, and it is written again as it was exactly if there were none
+pub read-but-for-odd-bits : (s : List ℕ) (p : MeshPacket) → Bytes s → meshSays (meshOf s) ≡ value p → meshSays (meshOf (cleared s)) ≡ value (evenMesh p)
+read-but-for-odd-bits s p b e = ap meshSays (frame-even s p b (mesh-said (meshOf s) p e))
+
+pub same-bytes-exactly-if-even : (s : List ℕ) (x : Lists) (p : MeshPacket) → Bytes s → meshSays (meshOf s) ≡ value p
+    → (oddIn (p .payload) ≡ 0 → meshFrame (framed s x) p ≡ bytes s) × (meshFrame (framed s x) p ≡ bytes s → oddIn (p .payload) ≡ 0)
+same-bytes-exactly-if-even s x p b e = same-exactly s p b (mesh-said (meshOf s) p e) x
 
 pub lora-read-then-written : (s : List ℕ) (x : Lists) (r : Run) → packetSays (packetOf s) ≡ value (Lora r) → packetFrame (framed s x) (Lora r) ≡ bytes s
 unfolding packetFrame
 lora-read-then-written s x r e = lora-again s r (packet-said (packetOf s) (Lora r) e)
 
--- what is written is read back: a packet whose header's type is its payload's kind, with the run where it lies now
+-- what is written is read back without odd bits: a packet whose header's type is its payload's kind, with the run where it lies now
 module _ (l : Lent) (w : List ℕ) (p : MeshPacket) (written : meshFrame l p ≡ bytes w) (mic : p .mic < 4294967296) where
   pub uplink-written-then-read : (u : UplinkPayload) → p .payload ≡ payload.Uplink u → p .mhdr .«payload_type» ≡ Uplink → u .metadata .channel < 256 → u .«relay_id» < 4294967296
-      → (meshSays (meshOf w) ≡ value (carrying p (payload.Uplink (record { metadata = u .metadata; «relay_id» = u .«relay_id»; «phy_payload» = runAt 10 (length (runBytes (l .frame) (u .«phy_payload»))) }))))
+      → (meshSays (meshOf w) ≡ value (carrying p (payload.Uplink (record { metadata = even (u .metadata); «relay_id» = u .«relay_id»; «phy_payload» = runAt 10 (length (runBytes (l .frame) (u .«phy_payload»))) }))))
       × (runBytes w (runAt 10 (length (runBytes (l .frame) (u .«phy_payload»)))) ≡ runBytes (l .frame) (u .«phy_payload»))
   uplink-written-then-read u k t c r = let b = uplink-back l w p written mic u k t c r in (ap meshSays (b .0), b .1)
 

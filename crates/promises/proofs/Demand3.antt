@@ -3,14 +3,14 @@
 use Prim.Native.Nat.{ℕ, _≤_, _<_}
 use mathlib.Core.Bool.{true, false}
 use mathlib.Core.Option.{none}
-use mathlib.Core.Path.{_≡_, ap}
+use mathlib.Core.Path.{_≡_, refl, ap}
 use mathlib.Core.List.{List, foldl}
 use lib.ListN.{length}
 use Rattle.base.specs.Lists.{Bytes}
 use Rattle.base.specs.Numbers.{hopsNone, hopsMany}
 use Rattle.base.specs.Answers.{Answer, value, number, Writing, bytes, refused, checkedOf, checkedSays}
 use Rattle.fips197.specs.Aes.{aes}
-use Rattle.packets.specs.Read.{meshOf, meshSays}
+use Rattle.packets.specs.Read.{meshOf, meshSays, evenMesh}
 use Rattle.packets.specs.Write.{meshFrame}
 use Rattle.packets.specs.declared.mesh.MeshPacket.{MeshPacket}
 use Rattle.sealing.specs.Mesh.{meshDecrypted, meshWork, meshDecoded, meshOpenedSays}
@@ -21,13 +21,15 @@ use Rattle.demand.specs.Demand.{bitOf, mayDiffer, Edit, edited, after, lastAcce
 use Rattle.demand.proofs.Demand as demand
 use Rattle.promises.proofs.Said.{mesh-said, mesh-refused}
 
--- what an accepted edit `e` of the frame `s`, which was read as `p`, leaves; `packet` is what it is read as from now on
-pub record Edited (s : List ℕ) (p : MeshPacket) (e : Edit) (packet : MeshPacket) : Type 0 where
+-- what an accepted edit `e` of the frame `s`, which was read as `p`, leaves; `signed` is the packet signed afresh, and `packet` what the buffer is
+-- read as from now on
+pub record Edited (s : List ℕ) (p : MeshPacket) (e : Edit) (signed packet : MeshPacket) : Type 0 where
   -- exactly what reading, setting the count, signing and writing afresh gives
-  pub signed-afresh : meshSays (setMic (aes (e .key)) (alone s) (carryingCount p (e .count))) ≡ value packet
-  pub written-afresh : meshFrame (alone s) packet ≡ bytes (after s e)
+  pub signed-afresh : meshSays (setMic (aes (e .key)) (alone s) (carryingCount p (e .count))) ≡ value signed
+  pub written-afresh : meshFrame (alone s) signed ≡ bytes (after s e)
   pub answers : checkedSays (checkedOf (edited s e)) (after s e) ≡ value (after s e)
   pub reads : meshSays (meshOf (after s e)) ≡ value packet
+  pub odd-dropped : packet ≡ evenMesh signed
   -- only the first byte's low three bits, the last four bytes and, in an uplink, the top two bits of byte 4 differ
   pub length-kept : length (after s e) ≡ length s
   pub bits-kept : (j i : ℕ) → mayDiffer s j i ≡ false → bitOf (after s e) j i ≡ bitOf s j i
@@ -43,18 +45,20 @@ pub record Edited (s : List ℕ) (p : MeshPacket) (e : Edit) (packet : MeshPacke
   pub items-decoded : (work : List ℕ) → decoded piecesIn packet (after s e) work ≡ decoded piecesIn p s work
 
 -- every edit with a count from 1 to 8 of a frame that is read
-pub edit-is-afresh : (s : List ℕ) (p : MeshPacket) (e : Edit) → Bytes s → meshSays (meshOf s) ≡ value p → 1 ≤ e .count → e .count ≤ 8 → (packet : MeshPacket) × Edited s p e packet
+pub edit-is-afresh : (s : List ℕ) (p : MeshPacket) (e : Edit) → Bytes s → meshSays (meshOf s) ≡ value p → 1 ≤ e .count → e .count ≤ 8 → (signed packet : MeshPacket) × Edited s p e signed packet
 edit-is-afresh s p e small said least most =
     let read = mesh-said (meshOf s) p said in
     let a = demand.afresh s p small read e least most in
-    let q = a .packet in
+    let q = evenMesh (a .packet) in
     let r = a .read in (
+      a .packet,
       q,
       record {
         signed-afresh = ap meshSays (a .signed);
         written-afresh = a .written;
         answers = ap {B = Answer (List ℕ)} (λ (f : Writing). checkedSays (checkedOf f) (after s e)) (a .answer);
         reads = ap meshSays r;
+        odd-dropped = refl;
         length-kept = demand.same-length s p small read e least most;
         bits-kept = demand.few-bits s p small read e least most;
         valid = ap validSays (demand.validates s p small read e least most q r);

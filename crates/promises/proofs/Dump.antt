@@ -20,7 +20,7 @@ use Rattle.fields.specs.declared.header.PayloadType.the-variants.{Uplink, Downl
 use Rattle.fields.proofs.Laws.Header.{marked}
 use Rattle.links.specs.Read.{uplinkAt, downlinkAt}
 use Rattle.events.specs.Read.{stampedAt, eventAt, commandAt}
-use Rattle.packets.specs.Read.{bodyIn, payloadAt, withPayload, withHeader, meshOf, ofMesh, packetOf, packetSays}
+use Rattle.packets.specs.Read.{bodyIn, payloadAt, withPayload, withHeader, meshOf, ofMesh, packetOf, packetSays, oddIn, evenMesh}
 use Rattle.links.specs.declared.uplink.UplinkPayload.{UplinkPayload}
 use Rattle.links.specs.declared.downlink.DownlinkPayload.{DownlinkPayload}
 use Rattle.packets.specs.declared.mesh.Payload.the-variants.{Uplink as AnUplink, Downlink as ADownlink}
@@ -32,10 +32,10 @@ use Rattle.packets.specs.declared.any.PacketRead.the-variants.{Packet as Packet
 use Rattle.round_trips.specs.Which.{leastFrame, meshNumber, packetNumber}
 use Rattle.round_trips.proofs.Which.{body-length}
 use Rattle.dump.specs.Ascii.{ascii}
-use Rattle.dump.specs.Dump.{lastDigits, decimal, lineOf, meshText, frameText, badHex, lineText, fromDigits}
+use Rattle.dump.specs.Dump.{lastDigits, decimal, oddText, lineOf, meshText, frameText, badHex, lineText, fromDigits}
 use Rattle.dump.proofs.Examples as examples
 use Rattle.dump.proofs.Laws.Decimal.{decimal-back}
-use Rattle.dump.proofs.Laws.Text.{text-of, mesh-text-most, hex-line, line-bad, line-long, line-text-most}
+use Rattle.dump.proofs.Laws.Text.{text-of, odd-large, odd-inside, mesh-text-most, hex-line, line-bad, line-long, line-text-most}
 use Rattle.promises.proofs.Demand2.{packet-reader}
 
 -- ---- the example of 13.11, its four lines and what is printed for each
@@ -59,14 +59,30 @@ mesh-text s p e = by (packetOf s) refl e
 
 -- a packet in hand that has no MIC: nothing stands in its place
 pub uplink-without-mic : (p : MeshPacket) (u : UplinkPayload) → p .payload ≡ AnUplink u → p .«has_mic» ≡ false
-    → meshText p ≡ lineOf (p .mhdr .«payload_type») (p .mhdr .«hop_count») (ascii ", uplink_id: ") (u .metadata .«uplink_id») (u .«relay_id») (ascii ", mic: ")
+    → meshText p ≡ lineOf (p .mhdr .«payload_type») (p .mhdr .«hop_count») (ascii ", uplink_id: ") (u .metadata .«uplink_id») (u .«relay_id») (ascii ", mic: ") (u .metadata .odd)
 unfolding meshText
 uplink-without-mic p u q e = rw (q, e) refl
 
 pub downlink-without-mic : (p : MeshPacket) (u : DownlinkPayload) → p .payload ≡ ADownlink u → p .«has_mic» ≡ false
-    → meshText p ≡ lineOf (p .mhdr .«payload_type») (p .mhdr .«hop_count») (ascii ", uplink_id: ") (u .metadata .«uplink_id») (u .«relay_id») (ascii ", mic: ")
+    → meshText p ≡ lineOf (p .mhdr .«payload_type») (p .mhdr .«hop_count») (ascii ", uplink_id: ") (u .metadata .«uplink_id») (u .«relay_id») (ascii ", mic: ") 0
 unfolding meshText
 downlink-without-mic p u q e = rw (q, e) refl
+
+-- 13.13: odd bits are told at the end of an uplink's line, inside the bracket, where they are 1 to 3; all else of a packet's text is as without them
+pub odd-bits-inside-the-bracket : (p : MeshPacket)
+    → (front : List ℕ) × (meshText (evenMesh p) ≡ front ++ ascii "]") × (meshText p ≡ front ++ oddText (oddIn (p .payload)) ++ ascii "]")
+odd-bits-inside-the-bracket = odd-inside
+
+pub odd-bits-are-one-digit : (oddText 0 ≡ []) × (oddText 1 ≡ ascii " odd: 1") × (oddText 2 ≡ ascii " odd: 2") × (oddText 3 ≡ ascii " odd: 3") × ((n : ℕ) → 3 < n → oddText n ≡ [])
+unfolding oddText
+odd-bits-are-one-digit = (refl, refl, refl, refl, odd-large)
+
+pub odd-lines :
+    (lineText (ascii "e012355007020a0b0c0d11223344") ≡ ascii "[Uplink hop_count: 1, uplink_id: 291, relay_id: 0a0b0c0d, mic: 11223344]")
+    × (lineText (ascii "e012355047020a0b0c0d11223344") ≡ ascii "[Uplink hop_count: 1, uplink_id: 291, relay_id: 0a0b0c0d, mic: 11223344 odd: 1]")
+    × (lineText (ascii "e012355087020a0b0c0d11223344") ≡ ascii "[Uplink hop_count: 1, uplink_id: 291, relay_id: 0a0b0c0d, mic: 11223344 odd: 2]")
+    × (lineText (ascii "e0123550c7020a0b0c0d11223344") ≡ ascii "[Uplink hop_count: 1, uplink_id: 291, relay_id: 0a0b0c0d, mic: 11223344 odd: 3]")
+odd-lines = examples.odd-lines
 
 -- 13.8, of a LoRa frame
 pub lora-counts-bytes : (s : List ℕ) → 1 ≤ length s → length s ≤ 8192 → (getD s 0 0 / 32 ≡ 7 → ⊥) → frameText s ≡ ascii "lora " ++ decimal (length s)
@@ -212,9 +228,9 @@ pub either-case : (l : List ℕ) → lineText (map lower l) ≡ lineText l
 unfolding lineText badHex
 either-case l = rw (same-length l, same-hex l, same-bytes l) refl
 
--- no text is longer than 90 bytes, of a packet in hand neither, so an output of 90 is never too short
+-- no text is longer than 90 bytes, of a packet in hand neither, whose hop count is a byte, so an output of 90 is never too short
 pub text-is-short : (l : List ℕ) → length (lineText l) ≤ 90
 text-is-short = line-text-most
 
-pub packet-text-is-short : (p : MeshPacket) → length (meshText p) ≤ 90
+pub packet-text-is-short : (p : MeshPacket) → p .mhdr .«hop_count» ≤ 255 → length (meshText p) ≤ 90
 packet-text-is-short = mesh-text-most

@@ -51,9 +51,9 @@ module _ (A B C : PayloadCache) (ab : A ≡ B → ⊥) (ac : A ≡ C → ⊥) (b
 
 -- P1 to P12, in their order: 14.1 to 14.12 of the rules
 pub twelve :
-    (upOf (0x12 ∷ 0x35 ∷ 0x50 ∷ 0x07 ∷ 0x02 ∷ []) ≡ record { «uplink_id» = 291; dr = 5; rssi = negsuc 79; snr = pos 7; channel = 2 })
-    × (upOf (0xff ∷ 0xff ∷ 0xff ∷ 0x20 ∷ 0xff ∷ []) ≡ record { «uplink_id» = 4095; dr = 15; rssi = negsuc 254; snr = negsuc 31; channel = 255 })
-    × (snrOf 0xff ≡ negsuc 0) × (signalSays (snrByte (negsuc 0)) ≡ value 0x3f)
+    (upOf (0x12 ∷ 0x35 ∷ 0x50 ∷ 0x07 ∷ 0x02 ∷ []) ≡ record { «uplink_id» = 291; dr = 5; rssi = negsuc 79; snr = pos 7; channel = 2; odd = 0 })
+    × (upOf (0xff ∷ 0xff ∷ 0xff ∷ 0x20 ∷ 0xff ∷ []) ≡ record { «uplink_id» = 4095; dr = 15; rssi = negsuc 254; snr = negsuc 31; channel = 255; odd = 0 })
+    × (snrOf 0xff ≡ record { snr = negsuc 0; odd = 3 }) × (signalSays (snrByte (negsuc 0)) ≡ value 0x3f)
     × (freqWire 868100000 ≡ bytes (0x84 ∷ 0x76 ∷ 0x28 ∷ []))
     × (freqWire 2400000001 ≡ refused 38) × (hertzOf 0xb7 0x1b 0x00 ≡ 2400000000)
     × (freqWire 1200000000 ≡ refused 38)

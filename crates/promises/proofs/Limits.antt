@@ -27,7 +27,7 @@ use Rattle.fields.specs.declared.header.PayloadType.the-variants as type
 use Rattle.fields.specs.declared.path.RelayPath.{RelayPath}
 use Rattle.fields.proofs.Laws.Bytes.{Small, none, _▸_, small}
 use Rattle.fields.proofs.Laws.Header.{accepted, header-again}
-use Rattle.fields.proofs.Laws.Limits.{Within, read-within, UplinkId, Dr, Rssi, Snr, Channel, RelayId, Hertz, TxPower, Delay}
+use Rattle.fields.proofs.Laws.Limits.{Within, read-within, UplinkId, Dr, Rssi, Snr, Odd, Channel, RelayId, Hertz, TxPower, Delay}
 use Rattle.heartbeats.specs.Heartbeat.{sixAt, entryAt, entryRefusal, entryRead, pathSays}
 use Rattle.heartbeats.specs.declared.heartbeat.PathRead.the-variants.{Entry, Refused as NoEntry}
 use Rattle.links.specs.Read.{fourAt, uplinkAt, downlinkAt, uplinkSays, downlinkSays}
@@ -86,6 +86,7 @@ module _ (b : List ℕ) (h : Bytes b) where
           rate = rw (w .meta-is) (counted _ _ _ (read-within five m Dr));
           strength = rw (w .meta-is) (read-within five m Rssi);
           ratio = rw (w .meta-is) (read-within five m Snr);
+          odd = rw (w .meta-is) (counted _ _ _ (read-within five m Odd));
           number = rw (w .meta-is) (counted _ _ _ (read-within five m Channel));
           relay = rw (w .relay-is) (four 5);
         }
@@ -175,6 +176,7 @@ entry-within v h i r e = by (eqb (entryRefusal (length v) i) 0) e
           relay = counted _ _ _ (read-within (sixAt v k) f RelayId);
           strength = read-within (0 ∷ 0 ∷ getD v (k + 4) 0 ∷ getD v (k + 5) 0 ∷ []) g Rssi;
           ratio = read-within (0 ∷ 0 ∷ getD v (k + 4) 0 ∷ getD v (k + 5) 0 ∷ []) g Snr;
+          odd = counted _ _ _ (read-within (0 ∷ 0 ∷ getD v (k + 4) 0 ∷ getD v (k + 5) 0 ∷ []) g Odd);
         })
 
 -- ---- both ends
@@ -201,6 +203,6 @@ both-ends-read type.Downlink = (refl, refl)
 both-ends-read type.Event = (refl, refl)
 both-ends-read type.Command = (refl, refl)
 
-pub both-ends-of-an-entry-read : (pathSays (entryRead (0 ∷ 0 ∷ 0 ∷ 0 ∷ 255 ∷ 32 ∷ []) 0) ≡ value leastEntry) × (pathSays (entryRead (255 ∷ 255 ∷ 255 ∷ 255 ∷ 0 ∷ 31 ∷ []) 0) ≡ value mostEntry)
+pub both-ends-of-an-entry-read : (pathSays (entryRead (0 ∷ 0 ∷ 0 ∷ 0 ∷ 255 ∷ 32 ∷ []) 0) ≡ value leastEntry) × (pathSays (entryRead (255 ∷ 255 ∷ 255 ∷ 255 ∷ 0 ∷ 223 ∷ []) 0) ≡ value mostEntry)
 unfolding entryRead entryRefusal entryAt rssiOf snrOf beOf beMore
 both-ends-of-an-entry-read = (refl, refl)

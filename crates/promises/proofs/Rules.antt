@@ -5,8 +5,8 @@ use mathlib.Core.Bool.{Bool, true, false, not}
 use mathlib.Core.Path.{_≡_, refl, sym, ap, _∙_}
 use mathlib.Core.Logic.{_⊎_, inl, inr}
 use lib.Dec.{ltb, leb, eqb}
-use mathlib.Core.List.{List, [], _∷_}
-use lib.IntN.{ℤ, pos, negℤ}
+use mathlib.Core.List.{List, [], _∷_, map}
+use lib.IntN.{ℤ, pos, negsuc, negℤ}
 use lib.ListN.{length, getD, take, drop, replicate}
 use borrow.Author.Tests.{lt-ltb, le-ltb, ltb-true, ltb-false, le-leb, lt-leb, leb-true, leb-false, eq-eqb, ne-eqb, eqb-true, eqb-false}
 use Rattle.base.specs.Pick.{pick}
@@ -28,9 +28,9 @@ use Rattle.fields.specs.Header.{typeRead, codeOf, headerOf, headerByte, typeSay
 use Rattle.fields.specs.Freq.{scaled, hertzOf, hertzIn, freqRead, halvedOf, stepsOf, exactSteps, freqWire, freqSays, stepsSays}
 use Rattle.fields.specs.declared.freq.FreqRead.the-variants as freq
 use Rattle.fields.specs.Limits.{hertzMost}
-use Rattle.fields.specs.Signal.{rssiOf, rssiByte, snrOf, ignoredOf, snrByte, signalSays}
-use Rattle.fields.specs.Meta.{upOf, upWire, downOf, downWire}
-use Rattle.fields.specs.Path.{pathOf, pathWire}
+use Rattle.fields.specs.Signal.{rssiOf, rssiByte, evenByte, evenAt, snrOf, snrByte, signalSays}
+use Rattle.fields.specs.Meta.{upOf, even, upWire, downOf, downWire}
+use Rattle.fields.specs.Path.{pathOf, evenEntry, pathWire}
 use Rattle.fields.specs.declared.header.MHDR.{MHDR}
 use Rattle.fields.specs.declared.header.PayloadType.{PayloadType}
 use Rattle.fields.specs.declared.meta.UplinkMetadata.{UplinkMetadata}
@@ -39,11 +39,12 @@ use Rattle.fields.specs.declared.path.RelayPath.{RelayPath}
 use Rattle.fields.proofs.Laws.Header.{type-back, header-back, header-again, not-marked}
 use Rattle.fields.proofs.Laws.Bytes.{none, _▸_, small}
 use Rattle.fields.proofs.Laws.Freq.{bytes-scaled, freq-of-scaled, freq-again, freq-steps, freq-length, freq-bytes}
-use Rattle.fields.proofs.Laws.Signal.{rssi-back, rssi-again, snr-back, snr-again}
-use Rattle.fields.proofs.Laws.Meta.{up-back, up-again, down-back, down-again}
-use Rattle.fields.proofs.Laws.Path.{path-back, path-again}
-use Rattle.heartbeats.specs.Heartbeat.{pathsOf, beatRefusal, beatOf, entryRead, beatWire, beatSays, pathSays, noPath, FourByteIds}
+use Rattle.fields.proofs.Laws.Signal.{rssi-back, rssi-again, snr-back, snr-again, odd-is}
+use Rattle.fields.proofs.Laws.Meta.{up-back, up-again, up-same, up-even, down-back, down-again}
+use Rattle.fields.proofs.Laws.Path.{path-back, path-again, path-same, path-even}
+use Rattle.heartbeats.specs.Heartbeat.{sixAt, entryAt, pathsOf, beatRefusal, entryRefusal, beatOf, entryRead, beatWire, beatSays, pathSays, noPath, FourByteIds}
 use Rattle.heartbeats.specs.declared.heartbeat.HeartbeatPayload.{HeartbeatPayload}
+use Rattle.heartbeats.specs.declared.heartbeat.PathRead.the-variants.{Entry, Refused as NoEntry}
 use Rattle.heartbeats.proofs.Laws.{refused-entries, taken-entries, beat-back}
 use Rattle.items.specs.Items.{isBeat, badBeat, openingOf, kindOf, pathKind, itemAt, Turn, walkedTo, keptItem, noItem, itemSays, listedItems}
 use Rattle.items.specs.declared.count.Opening.{Opening}
@@ -57,16 +58,21 @@ use Rattle.composed_items.specs.Composed.{Lists, lists, tagOf, composedWire, le
 use Rattle.composed_items.specs.One.{oneWire, sealedWire, encodedOf}
 use Rattle.composed_items.proofs.Alone.{read-encoded, read-encoded-plain, read-again, one-read, one-composed}
 use Rattle.composed_items.proofs.Again.{written-back}
-use Rattle.contents.specs.Content.{framed, contentWire}
+use Rattle.contents.specs.Content.{Lent, framed, contentWire}
 use Rattle.contents.specs.declared.content.Content.{Content}
 use Rattle.contents.specs.declared.content.Content.the-variants.{Sealed}
-use Rattle.packets.specs.Read.{meshOf, meshSays}
+use Rattle.links.specs.declared.uplink.UplinkPayload.{UplinkPayload}
+use Rattle.packets.specs.Read.{meshOf, meshSays, evenMesh}
+use Rattle.packets.specs.Write.{meshFrame}
+use Rattle.packets.specs.declared.mesh.Payload.the-variants.{Uplink}
+use Rattle.packets.specs.declared.mesh.MeshPacket.{MeshPacket}
+use Rattle.round_trips.proofs.Even.{odd-found, even-written}
 use Rattle.sealing.specs.Open.{sealWire, decryptOf, workAfter, decodeOf, told, openedSays}
 use Rattle.sealing.proofs.Clean.{decrypted-clean, decoded-clean}
 use Rattle.round_trips.specs.Which.{leastFrame, meshNumber}
 use Rattle.cache.specs.inner.Ring.{newOf}
 use Rattle.promises.specs.Said.{Accepts}
-use Rattle.promises.proofs.Said.{header-said, byte-said, signal-said, item-said, opened-said}
+use Rattle.promises.proofs.Said.{mesh-said, header-said, byte-said, signal-said, item-said, opened-said}
 use Rattle.promises.proofs.Demand2.{mesh-reader-reads, mesh-reader-refuses}
 
 -- ---- the header byte
@@ -113,11 +119,21 @@ rssi-is-minus-the-byte b h = (refl, ap signalSays (rssi-again b h))
 pub rssi-written-then-read : (x : ℤ) (b : ℕ) → signalSays (rssiByte x) ≡ value b → rssiOf b ≡ x
 rssi-written-then-read x b e = rssi-back x b (signal-said (rssiByte x) b e)
 
--- 5.7
-pub snr-read-then-written : (b : ℕ) → b < 256 → signalSays (snrByte (snrOf b)) ≡ value (b % 64)
+-- 5.7: an snr byte is read as its number and its odd bits, o, as found
+pub snr-byte-is-read : (o n : ℕ) → n < 32 → (snrOf (o * 64 + n) ≡ record { snr = pos n; odd = o }) × (snrOf (o * 64 + (63 - n)) ≡ record { snr = negsuc n; odd = o })
+unfolding snrOf
+snr-byte-is-read o n l =
+    let a : (o * 64 + n) % 64 ≡ n = omega arith in
+    let b : (o * 64 + n) / 64 ≡ o = omega arith in
+    let c : (o * 64 + (63 - n)) % 64 ≡ 63 - n = omega arith in
+    let d : (o * 64 + (63 - n)) / 64 ≡ o = omega arith in
+    let e : 64 - (63 - n) ≡ suc n = omega arith in
+    (rw (a, b, lt-ltb n 32 l) refl, rw (c, d, e, le-ltb (63 - n) 32 (omega arith)) refl)
+
+pub snr-read-then-written : (b : ℕ) → b < 256 → signalSays (snrByte (snrOf b .snr)) ≡ value (evenByte b)
 snr-read-then-written b h = ap signalSays (snr-again b h)
 
-pub snr-written-then-read : (x : ℤ) (b : ℕ) → signalSays (snrByte x) ≡ value b → snrOf b ≡ x
+pub snr-written-then-read : (x : ℤ) (b : ℕ) → signalSays (snrByte x) ≡ value b → snrOf b ≡ record { snr = x; odd = 0 }
 snr-written-then-read x b e = snr-back x b (signal-said (snrByte x) b e)
 
 -- 5.12: of a frequency f below 2.4 GHz, and from there up of its half
@@ -261,10 +277,10 @@ frequency-not-three-bytes s h = simp (ne-eqb (length s) 3 h)
 -- ---- metadata and path entries
 
 pub uplink-metadata-read-then-written : (b : List ℕ) → length b ≡ 5 → Bytes b
-    → upWire (upOf b) ≡ bytes (getD b 0 0 ∷ getD b 1 0 ∷ getD b 2 0 ∷ (getD b 3 0 % 64) ∷ getD b 4 0 ∷ [])
+    → upWire (upOf b) ≡ bytes (evenAt b 3)
 uplink-metadata-read-then-written = up-again
 
-pub uplink-metadata-written-then-read : (m : UplinkMetadata) (w : List ℕ) → m .channel < 256 → upWire m ≡ bytes w → upOf w ≡ m
+pub uplink-metadata-written-then-read : (m : UplinkMetadata) (w : List ℕ) → m .channel < 256 → upWire m ≡ bytes w → upOf w ≡ even m
 uplink-metadata-written-then-read m w h e = up-back m w h e .2
 
 pub downlink-metadata-read-then-written : (b : List ℕ) → length b ≡ 6 → Bytes b
@@ -275,11 +291,45 @@ pub downlink-metadata-written-then-read : (m : DownlinkMetadata) (w : List ℕ) 
 downlink-metadata-written-then-read m w e = down-back m w e .2
 
 pub path-entry-read-then-written : (b : List ℕ) → length b ≡ 6 → Bytes b
-    → pathWire (pathOf b) ≡ bytes (getD b 0 0 ∷ getD b 1 0 ∷ getD b 2 0 ∷ getD b 3 0 ∷ getD b 4 0 ∷ (getD b 5 0 % 64) ∷ [])
+    → pathWire (pathOf b) ≡ bytes (evenAt b 5)
 path-entry-read-then-written = path-again
 
-pub path-entry-written-then-read : (p : RelayPath) (w : List ℕ) → p .«relay_id» < 4294967296 → pathWire p ≡ bytes w → pathOf w ≡ p
+pub path-entry-written-then-read : (p : RelayPath) (w : List ℕ) → p .«relay_id» < 4294967296 → pathWire p ≡ bytes w → pathOf w ≡ evenEntry p
 path-entry-written-then-read p w h e = path-back p w h e .2
+
+-- 5.18: what is read of metadata, of a path entry and of a frame without their odd bits is what is read of them, with `odd` dropped (of a frame:
+-- Demand2.read-but-for-odd-bits); written again, the bytes are the same exactly if `odd` is 0; and no writing looks at it
+pub uplink-metadata-but-for-odd-bits : (b : List ℕ) → length b ≡ 5 → upOf (evenAt b 3) ≡ even (upOf b)
+uplink-metadata-but-for-odd-bits b l = up-even b (omega arith)
+
+pub path-entry-but-for-odd-bits : (b : List ℕ) → length b ≡ 6 → pathOf (evenAt b 5) ≡ evenEntry (pathOf b)
+path-entry-but-for-odd-bits = path-even
+
+pub uplink-metadata-same-exactly-if-even : (b : List ℕ) → length b ≡ 5 → Bytes b
+    → (upOf b .odd ≡ 0 → upWire (upOf b) ≡ bytes b) × (upWire (upOf b) ≡ bytes b → upOf b .odd ≡ 0)
+uplink-metadata-same-exactly-if-even = up-same
+
+pub path-entry-same-exactly-if-even : (b : List ℕ) → length b ≡ 6 → Bytes b
+    → (pathOf b .odd ≡ 0 → pathWire (pathOf b) ≡ bytes b) × (pathWire (pathOf b) ≡ bytes b → pathOf b .odd ≡ 0)
+path-entry-same-exactly-if-even = path-same
+
+pub odd-bits-are-not-written : ((m : UplinkMetadata) → upWire (even m) ≡ upWire m) × ((p : RelayPath) → pathWire (evenEntry p) ≡ pathWire p)
+    × ((l : Lent) (p : MeshPacket) → meshFrame l (evenMesh p) ≡ meshFrame l p)
+unfolding upWire pathWire
+odd-bits-are-not-written = (λ m. refl, λ p. refl, even-written)
+
+-- an uplink has those of byte 4 of its frame, and entry i of a heartbeat's value those of its last byte
+pub uplink-odd-bits-as-found : (s : List ℕ) (p : MeshPacket) (u : UplinkPayload) → Bytes s → meshSays (meshOf s) ≡ value p → p .payload ≡ Uplink u
+    → u .metadata .odd ≡ getD s 4 0 / 64
+uplink-odd-bits-as-found s p u h e = odd-found s p h (mesh-said (meshOf s) p e) u
+
+pub path-odd-bits-as-found : (v : List ℕ) (i : ℕ) (r : RelayPath) → pathSays (entryRead v i) ≡ value r → r .odd ≡ getD v (i * 6 + 5) 0 / 64
+unfolding entryRead entryAt
+path-odd-bits-as-found v i r e = by (eqb (entryRefusal (length v) i) 0) e
+  where
+    by : (t : Bool) → pathSays (pick t (Entry (pathOf (sixAt v (i * 6)))) (NoEntry (entryRefusal (length v) i))) ≡ value r → r .odd ≡ getD v (i * 6 + 5) 0 / 64
+    by true z = let y : pathOf (sixAt v (i * 6)) ≡ r = cc in rw (← y) (odd-is (getD v (i * 6 + 5) 0))
+    by false z = let y : _≡_ {A = ℕ} 0 1 = cc in absurd (omega arith)
 
 -- ---- the shortest frames
 
@@ -332,17 +382,17 @@ derived-keys root = (refl, refl)
 
 -- ---- items and heartbeats
 
--- 7.8: a payload is clean exactly if nothing was skipped or cut and both ignored bits of each path entry are 0, which is: of each heartbeat that the
--- reader keeps, going from item to item, the bits of each entry's last byte
-abbrev pub EntriesClear : Bool → List ℕ → Type 0
-EntriesClear ev s =
+-- 7.8: a payload is clean exactly if nothing was skipped or cut and each path entry is read without odd bits, which is: of each heartbeat that the
+-- reader keeps, going from item to item, each six bytes
+abbrev pub EntriesEven : Bool → List ℕ → Type 0
+EntriesEven ev s =
     (n : ℕ) (i : Item) (next : ℕ) → itemSays (itemAt ev s (walkedTo ev s n 0)) ≡ value (keptItem i next) → isBeat ev (i .tag) ≡ true
-    → (k : ℕ) → k * 6 + 6 ≤ i .value .len → ignoredOf (getD s (i .value .start + (k * 6 + 5)) 0) ≡ 0
+    → (k : ℕ) → k * 6 + 6 ≤ i .value .len → pathOf (sixAt s (i .value .start + k * 6)) .odd ≡ 0
 
-pub clean-exactly-if-whole-and-clear : (ev : Bool) (s : List ℕ)
-    → (openingOf ev s .clean ≡ true → (openingOf ev s .skipped ≡ 0) × (openingOf ev s .«cut_bytes» ≡ 0) × EntriesClear ev s)
-    × ((openingOf ev s .skipped ≡ 0) × (openingOf ev s .«cut_bytes» ≡ 0) × EntriesClear ev s → openingOf ev s .clean ≡ true)
-clean-exactly-if-whole-and-clear ev s =
+pub clean-exactly-if-whole-and-even : (ev : Bool) (s : List ℕ)
+    → (openingOf ev s .clean ≡ true → (openingOf ev s .skipped ≡ 0) × (openingOf ev s .«cut_bytes» ≡ 0) × EntriesEven ev s)
+    × ((openingOf ev s .skipped ≡ 0) × (openingOf ev s .«cut_bytes» ≡ 0) × EntriesEven ev s → openingOf ev s .clean ≡ true)
+clean-exactly-if-whole-and-even ev s =
     let c = clean-whole ev s in (
       λ e. let a = c .0 e in (a .0, a .1, λ n i next q. a .2 n i next (item-said (itemAt ev s (walkedTo ev s n 0)) i next q)),
       λ a. c .1 (a .0, a .1, λ n i next q. a .2 n i next (ap itemSays q)),
@@ -383,12 +433,12 @@ kept-item-is-whole ev s at i next e = kept-whole ev s at i next (item-said (item
 pub walk-by-items-ends : (ev : Bool) (s : List ℕ) → itemSays (itemAt ev s (walkedTo ev s (length s) 0)) ≡ value (noItem (length s))
 walk-by-items-ends ev s = ap itemSays (walk-ends ev s)
 
--- the items that reading lists, composed again as they were read, are written as the open payload itself is: its kept items, the ignored
+-- the items that reading lists, composed again as they were read, are written as the open payload itself is: its kept items, the odd
 -- bits cleared
 pub items-lent-back : (ev : Bool) (s : List ℕ) → Bytes s → composedWire ev (lentBack ev s) (length (listedItems ev s)) ≡ bytes (openBytes ev s)
 items-lent-back ev s h = written-back ev s h
 
--- one item that is read is encoded as it stood, tag, length and value, the ignored bits of a heartbeat cleared; of any other item that is its
+-- one item that is read is encoded as it stood, tag, length and value, the odd bits of a heartbeat cleared; of any other item that is its
 -- own bytes
 pub item-read-then-encoded : (ev : Bool) (s : List ℕ) → Bytes s → (at : ℕ) (i : Item) (next : ℕ) → itemSays (itemAt ev s at) ≡ value (keptItem i next)
     → encodedOf ev i s ≡ bytes (itemBytes (isBeat ev (i .tag)) (i .tag) (runBytes s (i .value)))
@@ -460,7 +510,7 @@ pub heartbeat-kept : (v : List ℕ) (places : ℕ) → length v ≤ 255 → badB
 unfolding beatOf beatRefusal
 heartbeat-kept v places h e l = simp (le-ltb 255 (length v) h, sym (uneven (length v)) ∙ e, le-ltb places (length v / 6) l)
 
-pub heartbeat-written-then-read : (ps : List RelayPath) (w : List ℕ) → FourByteIds ps → beatWire ps ≡ bytes w → pathsOf w ≡ ps
+pub heartbeat-written-then-read : (ps : List RelayPath) (w : List ℕ) → FourByteIds ps → beatWire ps ≡ bytes w → pathsOf w ≡ map evenEntry ps
 heartbeat-written-then-read ps w h e = beat-back ps w h e .2
 
 -- ---- the cache's size

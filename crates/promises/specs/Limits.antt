@@ -7,7 +7,7 @@ use mathlib.Core.List.{List, _∷_}
 use lib.IntN.{ℤ}
 use lib.Signed.{ltZ}
 use lib.ListN.{replicate}
-use Rattle.fields.specs.Limits.{hopsLeast, hopsMost, uplinkIdLeast, uplinkIdMost, drLeast, drMost, rssiLeast, rssiMost, snrLeast, snrMost, channelLeast, channelMost, relayIdLeast, relayIdMost, hertzLeast, hertzMost, txPowerLeast, txPowerMost, delayLeast, delayMost, timestampLeast, timestampMost, micLeast, micMost}
+use Rattle.fields.specs.Limits.{hopsLeast, hopsMost, uplinkIdLeast, uplinkIdMost, drLeast, drMost, rssiLeast, rssiMost, snrLeast, snrMost, oddLeast, oddMost, channelLeast, channelMost, relayIdLeast, relayIdMost, hertzLeast, hertzMost, txPowerLeast, txPowerMost, delayLeast, delayMost, timestampLeast, timestampMost, micLeast, micMost}
 use Rattle.fields.specs.Header.{codeOf, typeLeast, typeMost}
 use Rattle.fields.specs.declared.header.PayloadType.{PayloadType}
 use Rattle.fields.specs.declared.header.PayloadType.the-variants as type
@@ -32,6 +32,7 @@ pub record UplinkWithin (u : UplinkPayload) : Type 0 where
   pub rate : Between drLeast drMost (u .metadata .dr)
   pub strength : BetweenZ rssiLeast rssiMost (u .metadata .rssi)
   pub ratio : BetweenZ snrLeast snrMost (u .metadata .snr)
+  pub odd : Between oddLeast oddMost (u .metadata .odd)
   pub number : Between channelLeast channelMost (u .metadata .channel)
   pub relay : Between relayIdLeast relayIdMost (u .«relay_id»)
 
@@ -52,6 +53,7 @@ pub record PathWithin (r : RelayPath) : Type 0 where
   pub relay : Between relayIdLeast relayIdMost (r .«relay_id»)
   pub strength : BetweenZ rssiLeast rssiMost (r .rssi)
   pub ratio : BetweenZ snrLeast snrMost (r .snr)
+  pub odd : Between oddLeast oddMost (r .odd)
 
 abbrev pub PayloadWithin : Payload → Type 0
 PayloadWithin (Uplink u) = UplinkWithin u
@@ -74,7 +76,7 @@ leastBytes type.Event = 240 ∷ replicate 12 0
 leastBytes type.Command = 248 ∷ replicate 12 0
 
 abbrev pub mostBytes : PayloadType → List ℕ
-mostBytes type.Uplink = 231 ∷ 255 ∷ 255 ∷ 0 ∷ 31 ∷ replicate 9 255
+mostBytes type.Uplink = 231 ∷ 255 ∷ 255 ∷ 0 ∷ 223 ∷ replicate 9 255
 mostBytes type.Downlink = 239 ∷ replicate 14 255
 mostBytes type.Event = 247 ∷ replicate 12 255
 mostBytes type.Command = 255 ∷ replicate 12 255
@@ -82,7 +84,7 @@ mostBytes type.Command = 255 ∷ replicate 12 255
 abbrev pub leastPayload : PayloadType → Payload
 leastPayload type.Uplink =
     Uplink (record {
-      metadata = record { «uplink_id» = uplinkIdLeast; dr = drLeast; rssi = rssiLeast; snr = snrLeast; channel = channelLeast };
+      metadata = record { «uplink_id» = uplinkIdLeast; dr = drLeast; rssi = rssiLeast; snr = snrLeast; channel = channelLeast; odd = oddLeast };
       «relay_id» = relayIdLeast;
       «phy_payload» = record { start = 10; len = 0 };
     })
@@ -98,7 +100,7 @@ leastPayload type.Command = Command (record { timestamp = timestampLeast; «rela
 abbrev pub mostPayload : PayloadType → Payload
 mostPayload type.Uplink =
     Uplink (record {
-      metadata = record { «uplink_id» = uplinkIdMost; dr = drMost; rssi = rssiMost; snr = snrMost; channel = channelMost };
+      metadata = record { «uplink_id» = uplinkIdMost; dr = drMost; rssi = rssiMost; snr = snrMost; channel = channelMost; odd = oddMost };
       «relay_id» = relayIdMost;
       «phy_payload» = record { start = 10; len = 0 };
     })
@@ -119,7 +121,7 @@ mostPacket t = record { mhdr = record { «payload_type» = t; «hop_count» = ho
 
 -- and of a path entry alone
 abbrev pub leastEntry : RelayPath
-leastEntry = record { «relay_id» = relayIdLeast; rssi = rssiLeast; snr = snrLeast }
+leastEntry = record { «relay_id» = relayIdLeast; rssi = rssiLeast; snr = snrLeast; odd = oddLeast }
 
 abbrev pub mostEntry : RelayPath
-mostEntry = record { «relay_id» = relayIdMost; rssi = rssiMost; snr = snrMost }
+mostEntry = record { «relay_id» = relayIdMost; rssi = rssiMost; snr = snrMost; odd = oddMost }

@@ -1,6 +1,6 @@
--- What is written and accepted reads back as the same packet, the payload by its bytes and not by its place. Said for a header whose type is
--- the payload's kind, and for LoRa frames of at least one byte whose first does not begin with 111. The bounds are those of the fields' types.
--- Assumes nothing.
+-- What is written and accepted reads back as the same packet without odd bits, the payload by its bytes and not by its place. Said for a
+-- header whose type is the payload's kind, and for LoRa frames of at least one byte whose first does not begin with 111. The bounds are those
+-- of the fields' types. Assumes nothing.
 use Prim.Native.Nat.{ℕ, _+_, _-_, _/_, _≤_, _<_}
 use native.Mathlib.Nat.{min-le-left}
 use native.Mathlib.Omega.{arith}
@@ -16,6 +16,7 @@ use Rattle.base.specs.Pick.{pick}
 use Rattle.base.specs.Answers.{bytes, refused}
 use Rattle.wire.specs.Number.{beBytes}
 use Rattle.wire.specs.Part.{partOf}
+use Rattle.fields.specs.Meta.{even}
 use Rattle.fields.specs.declared.header.PayloadType.{PayloadType}
 use Rattle.fields.specs.declared.header.PayloadType.the-variants.{Uplink, Downlink, Event, Command}
 use Rattle.fields.proofs.Laws.Header.{header-back}
@@ -78,7 +79,7 @@ module _ (s : Lent) (w : List ℕ) (p : MeshPacket) (written : meshFrame s p ≡
 
   pub uplink-back : (u : UplinkPayload) → p .payload ≡ AnUplink u → p .mhdr .«payload_type» ≡ Uplink
       → u .metadata .channel < 256 → u .«relay_id» < 4294967296
-      → (meshOf w ≡ Mesh (carrying p (AnUplink (record { metadata = u .metadata; «relay_id» = u .«relay_id»; «phy_payload» = runAt 10 (length (runBytes (s .frame) (u .«phy_payload»))) }))))
+      → (meshOf w ≡ Mesh (carrying p (AnUplink (record { metadata = even (u .metadata); «relay_id» = u .«relay_id»; «phy_payload» = runAt 10 (length (runBytes (s .frame) (u .«phy_payload»))) }))))
       × (runBytes w (runAt 10 (length (runBytes (s .frame) (u .«phy_payload»)))) ≡ runBytes (s .frame) (u .«phy_payload»))
   unfolding payloadWire uplinkWire payloadAt
   uplink-back u eu et hc hr =

@@ -1,4 +1,4 @@
--- What is read and written again is the same bytes, but for an uplink's two ignored bits. Assumes nothing.
+-- What is read and written again is the same bytes, but for an uplink's odd bits. Assumes nothing.
 use Prim.Native.Nat.{ℕ, _+_, _-_, _/_, _%_, _≤_}
 use native.Mathlib.Omega.{arith}
 use mathlib.Core.Bool.{Bool, true, false}
@@ -15,6 +15,7 @@ use Rattle.base.proofs.Bytes.{take-lt, drop-lt}
 use Rattle.base.proofs.Lists.{from-same, listed}
 use Rattle.wire.specs.Part.{reachNumber, partOf}
 use Rattle.wire.proofs.Laws.Part.{inside as lies-inside}
+use Rattle.fields.specs.Signal.{evenByte, evenAt}
 use Rattle.fields.specs.Header.{headerOf, codeOf}
 use Rattle.fields.specs.declared.header.MHDR.{MHDR}
 use Rattle.fields.specs.declared.header.HeaderRead.the-variants.{Header}
@@ -82,6 +83,19 @@ pub inside : (n start len : ℕ) → start + len ≤ n → runRefusal n (record 
 unfolding runRefusal
 inside n start len h = ap reachNumber (lies-inside n start len h)
 
+-- a body without an uplink's odd bits: byte 3 of it is the snr byte
+abbrev pub clearedOf : PayloadType → List ℕ → List ℕ
+clearedOf Uplink b = evenAt b 3
+clearedOf Downlink b = b
+clearedOf Event b = b
+clearedOf Command b = b
+
+pub cleared-length : (t : PayloadType) (b : List ℕ) → length (clearedOf t b) ≡ length b
+cleared-length Uplink b = length-set b 3 (evenByte (getD b 3 0))
+cleared-length Downlink b = refl
+cleared-length Event b = refl
+cleared-length Command b = refl
+
 module _ (s : List ℕ) (least : 5 ≤ length s) where
   abbrev b : List ℕ
   b = bodyIn s
@@ -106,6 +120,11 @@ module _ (s : List ℕ) (least : 5 ≤ length s) where
       let r : rest ≡ drop (length s - 4) s = drop-drop L 1 s ∙ ap (λ (k : ℕ). drop k s) i in
       ap (λ (x : List ℕ). (getD s 0 0 ∷ b) ++ x) (sym r) ∙ ap (λ (x : List ℕ). getD s 0 0 ∷ x) (sym behind-first) ∙ sym c
 
+  pub snr-byte : 4 ≤ length b → getD s 4 0 ≡ getD b 3 0
+  snr-byte l =
+      let m = drop (length s - 4) s in
+      ap (λ (y : List ℕ). getD y 4 0) (sym whole) ∙ List·getD-append (getD s 0 0 ∷ b) m 0 4 (omega arith)
+
   -- the run behind a head of k bytes is the rest of the body
   pub run-is : (k : ℕ) → k ≤ length b → partOf s (k + 1) (length b - k) ≡ drop k b
   unfolding partOf
@@ -129,15 +148,15 @@ module _ (s : List ℕ) (least : 5 ≤ length s) where
   halves k h = ap (λ (x : List ℕ). x ++ drop k b) (front k b h) ∙ take-append-drop k b
 
   module _ (bs : Bytes b) (x : Lists) where
-    up : (u : UplinkPayload) → uplinkAt 1 b ≡ UplinkIs u → uplinkWire s u ≡ bytes (set b 3 (getD b 3 0 % 64))
+    up : (u : UplinkPayload) → uplinkAt 1 b ≡ UplinkIs u → uplinkWire s u ≡ bytes (evenAt b 3)
     unfolding uplinkWire
     up u e =
         let w = uplink-was 1 b u e in
         let l = w .least in
         let t : length (take 9 b) ≡ 9 = length-take-le 9 b l in
         with-run 9 (u .«phy_payload») (uplinkHead u) _ l (w .run-is) (uplink-again 1 b u bs e)
-        ∙ ap (λ (x : List ℕ). bytes (set x 3 (getD b 3 0 % 64) ++ drop 9 b)) (front 9 b l)
-        ∙ ap bytes (sym (set-append-left (take 9 b) (drop 9 b) 3 (getD b 3 0 % 64) (omega arith)) ∙ ap (λ (x : List ℕ). set x 3 (getD b 3 0 % 64)) (take-append-drop 9 b))
+        ∙ ap (λ (x : List ℕ). bytes (set x 3 (evenByte (getD b 3 0)) ++ drop 9 b)) (front 9 b l)
+        ∙ ap bytes (sym (set-append-left (take 9 b) (drop 9 b) 3 (evenByte (getD b 3 0)) (omega arith)) ∙ ap (λ (x : List ℕ). set x 3 (evenByte (getD b 3 0))) (take-append-drop 9 b))
 
     down : (u : DownlinkPayload) → downlinkAt 1 b ≡ DownlinkIs u → downlinkWire s u ≡ bytes b
     unfolding downlinkWire
@@ -174,13 +193,7 @@ module _ (s : List ℕ) (least : 5 ≤ length s) where
         ap (λ (y : Content). headedBy (stamp (u .timestamp) (u .«relay_id»)) (contentWire false (framed s x) y)) (w .body-is)
         ∙ sealed-by false (u .timestamp) (u .«relay_id») (eqb (length b - 8) 0) (w .least) refl (command-again 1 b u bs e)
 
-    abbrev pub clearedBody : PayloadType → List ℕ
-    clearedBody Uplink = set b 3 (getD b 3 0 % 64)
-    clearedBody Downlink = b
-    clearedBody Event = b
-    clearedBody Command = b
-
-    of-up : (r : UplinkRead) (q : Payload) → uplinkAt 1 b ≡ r → ofUplink r ≡ PayloadIs q → payloadWire (framed s x) q ≡ bytes (clearedBody Uplink)
+    of-up : (r : UplinkRead) (q : Payload) → uplinkAt 1 b ≡ r → ofUplink r ≡ PayloadIs q → payloadWire (framed s x) q ≡ bytes (clearedOf Uplink b)
     unfolding payloadWire
     of-up (NoUplink k) q e y2 = let z : _≡_ {A = ℕ} 0 1 = cc in absurd (omega arith)
     of-up (UplinkIs u) q e y2 = let y : AnUplink u ≡ q = cc in rw (← y) (up u e)
@@ -200,44 +213,37 @@ module _ (s : List ℕ) (least : 5 ≤ length s) where
     of-command (NoCommand k) q e y2 = let z : _≡_ {A = ℕ} 0 1 = cc in absurd (omega arith)
     of-command (CommandIs u) q e y2 = let y : ACommand u ≡ q = cc in rw (← y) (command u e)
 
-    least-up : (r : UplinkRead) (q : Payload) → uplinkAt 1 b ≡ r → ofUplink r ≡ PayloadIs q → 4 ≤ length b
-    least-up (NoUplink k) q e y2 = let z : _≡_ {A = ℕ} 0 1 = cc in absurd (omega arith)
-    least-up (UplinkIs u) q e y2 = let w = uplink-was 1 b u e in omega arith
-
-    pub body-again : (t : PayloadType) (q : Payload) → payloadAt t b ≡ PayloadIs q → payloadWire (framed s x) q ≡ bytes (clearedBody t)
+    pub body-again : (t : PayloadType) (q : Payload) → payloadAt t b ≡ PayloadIs q → payloadWire (framed s x) q ≡ bytes (clearedOf t b)
     unfolding payloadAt
     body-again Uplink q e = of-up (uplinkAt 1 b) q refl e
     body-again Downlink q e = of-down (downlinkAt 1 b) q refl e
     body-again Event q e = of-event (eventAt 1 b) q refl e
     body-again Command q e = of-command (commandAt 1 b) q refl e
 
-    pub cleared-length : (t : PayloadType) → length (clearedBody t) ≡ length b
-    cleared-length Uplink = length-set b 3 (getD b 3 0 % 64)
-    cleared-length Downlink = refl
-    cleared-length Event = refl
-    cleared-length Command = refl
+  least-up : (r : UplinkRead) (q : Payload) → uplinkAt 1 b ≡ r → ofUplink r ≡ PayloadIs q → 4 ≤ length b
+  least-up (NoUplink k) q e y2 = let z : _≡_ {A = ℕ} 0 1 = cc in absurd (omega arith)
+  least-up (UplinkIs u) q e y2 = let w = uplink-was 1 b u e in omega arith
 
-    -- with header byte and MIC, that is the whole frame with the two bits cleared
-    pub cleared-is : (t : PayloadType) (q : Payload) → payloadAt t b ≡ PayloadIs q → codeOf t ≡ getD s 0 0 / 8 % 4 → (getD s 0 0 ∷ clearedBody t) ++ drop (length s - 4) s ≡ cleared s
-    unfolding cleared payloadAt
-    cleared-is Uplink q p e =
-        let l = least-up (uplinkAt 1 b) q refl p in
-        let m = drop (length s - 4) s in
-        let x = getD b 3 0 % 64 in
-        let g : getD s 4 0 ≡ getD b 3 0 = ap (λ (y : List ℕ). getD y 4 0) (sym whole) ∙ List·getD-append (getD s 0 0 ∷ b) m 0 4 (omega arith) in
-        simp (eq-eqb (getD s 0 0 / 8 % 4) 0 (sym e), g)
-        (sym (set-append-left (getD s 0 0 ∷ b) m 4 x (omega arith)) ∙ ap (λ (y : List ℕ). set y 4 x) whole)
-    cleared-is Downlink q p e = simp (ne-eqb (getD s 0 0 / 8 % 4) 0 (λ z. omega arith)) whole
-    cleared-is Event q p e = simp (ne-eqb (getD s 0 0 / 8 % 4) 0 (λ z. omega arith)) whole
-    cleared-is Command q p e = simp (ne-eqb (getD s 0 0 / 8 % 4) 0 (λ z. omega arith)) whole
+  -- with header byte and MIC, that is the whole frame without the odd bits
+  pub cleared-is : (t : PayloadType) (q : Payload) → payloadAt t b ≡ PayloadIs q → codeOf t ≡ getD s 0 0 / 8 % 4 → (getD s 0 0 ∷ clearedOf t b) ++ drop (length s - 4) s ≡ cleared s
+  unfolding cleared payloadAt
+  cleared-is Uplink q p e =
+      let l = least-up (uplinkAt 1 b) q refl p in
+      let m = drop (length s - 4) s in
+      let x = evenByte (getD b 3 0) in
+      simp (eq-eqb (getD s 0 0 / 8 % 4) 0 (sym e), snr-byte l)
+      (sym (set-append-left (getD s 0 0 ∷ b) m 4 x (omega arith)) ∙ ap (λ (y : List ℕ). set y 4 x) whole)
+  cleared-is Downlink q p e = simp (ne-eqb (getD s 0 0 / 8 % 4) 0 (λ z. omega arith)) whole
+  cleared-is Event q p e = simp (ne-eqb (getD s 0 0 / 8 % 4) 0 (λ z. omega arith)) whole
+  cleared-is Command q p e = simp (ne-eqb (getD s 0 0 / 8 % 4) 0 (λ z. omega arith)) whole
 
--- the same bytes, but for an uplink's two ignored bits, whatever else is lent
+-- the same bytes, but for an uplink's odd bits, whatever else is lent
 pub again : (s : List ℕ) (x : Lists) (p : MeshPacket) → Bytes s → meshOf s ≡ Mesh p → meshFrame (framed s x) p ≡ bytes (cleared s)
 again s x p h e =
     let r = was-read s p e in
     let t = p .mhdr .«payload_type» in
     let bs : Bytes (bodyIn s) = body-bytes s h in
     let k = kind-is (getD s 0 0) (p .mhdr) (r .header) in
-    let n = cleared-length s (r .least) bs x t ∙ body-length s (r .least) in
-    read-written s x p (clearedBody s (r .least) bs x t) h e (body-again s (r .least) bs x t (p .payload) (r .body)) n
-    ∙ ap bytes (cleared-is s (r .least) bs x t (p .payload) (r .body) k)
+    let n = cleared-length t (bodyIn s) ∙ body-length s (r .least) in
+    read-written s x p (clearedOf t (bodyIn s)) h e (body-again s (r .least) bs x t (p .payload) (r .body)) n
+    ∙ ap bytes (cleared-is s (r .least) t (p .payload) (r .body) k)

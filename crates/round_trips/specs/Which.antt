@@ -3,8 +3,9 @@
 use Prim.Native.Nat.{ℕ, _/_, _%_}
 use mathlib.Core.List.{List}
 use lib.Dec.{ltb, eqb}
-use lib.ListN.{length, getD, set}
+use lib.ListN.{length, getD}
 use Rattle.base.specs.Pick.{pick}
+use Rattle.fields.specs.Signal.{evenAt}
 use Rattle.base.specs.Numbers.{frameEmpty, frameShort, notMesh, bodyShort, frameLong, frameMost}
 
 -- by the type's code: uplink 14, downlink 15, event and command 13
@@ -23,10 +24,6 @@ meshNumber s =
 unfoldable pub packetNumber : List ℕ → ℕ
 packetNumber s = pick (eqb (getD s 0 0 / 32) 7) (meshNumber s) (pick (eqb (length s) 0) frameEmpty (pick (ltb frameMost (length s)) frameLong 0))
 
--- byte i without its top two bits
-abbrev pub lowSix : List ℕ → ℕ → List ℕ
-lowSix s i = set s i (getD s i 0 % 64)
-
--- a frame with an uplink's two ignored bits as 0: byte 4 of it is the snr byte
+-- a frame without an uplink's odd bits: byte 4 of it is the snr byte
 unfoldable pub cleared : List ℕ → List ℕ
-cleared s = pick (eqb (getD s 0 0 / 8 % 4) 0) (lowSix s 4) s
+cleared s = pick (eqb (getD s 0 0 / 8 % 4) 0) (evenAt s 4) s

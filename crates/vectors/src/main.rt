@@ -353,6 +353,9 @@ fn same(a: UplinkMetadata, b: UplinkMetadata) -> bool {
     if a.snr != b.snr {
         return false;
     }
+    if a.odd != b.odd {
+        return false;
+    }
     a.channel == b.channel
 }
 
@@ -424,6 +427,7 @@ fn p1() {
             rssi: -80,
             snr: 7,
             channel: 2,
+            odd: 0,
         },
     );
 }
@@ -438,6 +442,7 @@ fn p2() {
             rssi: -255,
             snr: -32,
             channel: 255,
+            odd: 0,
         },
     );
 }
@@ -452,6 +457,7 @@ fn p3() {
             rssi: 0,
             snr: -1,
             channel: 0,
+            odd: 3,
         },
     );
 }

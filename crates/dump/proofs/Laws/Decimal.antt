@@ -8,7 +8,7 @@ use mathlib.Core.List.{List, [], _∷_, _++_, append-nil}
 use lib.Dec.{ltb}
 use lib.ListN.{length, set, replicate, length-append, length-replicate}
 use lib.Seq.{append-snoc, drop-at, take-all}
-use borrow.Author.Tests.{lt-ltb, le-ltb}
+use borrow.Author.Tests.{lt-ltb, le-ltb, ltb-false}
 use Rattle.base.specs.Pick.{pick}
 use Rattle.wire.specs.Part.{partOf}
 use Rattle.dump.specs.Dump.{lastDigits, decimal, fromDigits}
@@ -29,6 +29,18 @@ most (suc k) n = by (ltb n 10) (most k (n / 10))
 pub decimal-most : (n : ℕ) → length (decimal n) ≤ 10
 unfolding decimal
 decimal-most n = most 10 n
+
+-- three where it is no larger than a byte
+pub decimal-byte : (n : ℕ) → n ≤ 255 → length (decimal n) ≤ 3
+unfolding decimal lastDigits
+decimal-byte n h = by (ltb n 10) (ltb (n / 10) 10) (ltb (n / 10 / 10) 10) refl
+  where
+    by : (s t u : Bool) → ltb (n / 10 / 10) 10 ≡ u
+        → length (pick s ((48 + n) ∷ []) (pick t ((48 + n / 10) ∷ []) (pick u ((48 + n / 10 / 10) ∷ []) (lastDigits 7 (n / 10 / 10 / 10) ++ ((48 + n / 10 / 10 % 10) ∷ [])) ++ ((48 + n / 10 % 10) ∷ [])) ++ ((48 + n % 10) ∷ []))) ≤ 3
+    by true t u e = omega arith
+    by false true u e = omega arith
+    by false false true e = omega arith
+    by false false false e = absurd (let l = ltb-false (n / 10 / 10) 10 e in omega arith)
 
 -- ---- what they stand for
 

@@ -13,13 +13,14 @@ use Rattle.base.specs.Pick.{pick}
 use Rattle.base.specs.Lists.{Bytes}
 use Rattle.wire.specs.Number.{beOf, beMore}
 use Rattle.wire.proofs.Laws.Number.{be-lt}
-use Rattle.fields.specs.Limits.{hopsLeast, hopsMost, uplinkIdLeast, uplinkIdMost, drLeast, drMost, rssiLeast, rssiMost, snrLeast, snrMost, channelLeast, channelMost, relayIdLeast, relayIdMost, hertzLeast, hertzMost, stepsMost, txPowerLeast, txPowerMost, delayLeast, delayMost, timestampLeast, timestampMost, micLeast, micMost}
+use Rattle.fields.specs.Limits.{hopsLeast, hopsMost, uplinkIdLeast, uplinkIdMost, drLeast, drMost, rssiLeast, rssiMost, snrLeast, snrMost, oddLeast, oddMost, channelLeast, channelMost, relayIdLeast, relayIdMost, hertzLeast, hertzMost, stepsMost, txPowerLeast, txPowerMost, delayLeast, delayMost, timestampLeast, timestampMost, micLeast, micMost}
 use Rattle.fields.specs.Header.{typeLeast, typeMost, codeAt, hopsAt}
 use Rattle.fields.specs.Signal.{rssiOf, snrOf}
 use Rattle.fields.specs.Freq.{scaled, hertzOf}
 use Rattle.fields.specs.Meta.{upOf, downOf}
 use Rattle.fields.specs.Path.{pathOf}
 use Rattle.fields.proofs.Laws.Bytes.{none, _▸_, small}
+use Rattle.fields.proofs.Laws.Signal.{odd-is}
 
 pub data Field : Type 0 where
   TypeCode : Field
@@ -28,6 +29,7 @@ pub data Field : Type 0 where
   Dr : Field
   Rssi : Field
   Snr : Field
+  Odd : Field
   Channel : Field
   RelayId : Field
   Hertz : Field
@@ -52,6 +54,7 @@ readOf UplinkId b = pos (upOf b .«uplink_id»)
 readOf Dr b = pos (upOf b .dr)
 readOf Rssi b = upOf b .rssi
 readOf Snr b = upOf b .snr
+readOf Odd b = pos (upOf b .odd)
 readOf Channel b = pos (upOf b .channel)
 readOf RelayId b = pos (pathOf b .«relay_id»)
 readOf Hertz b = pos (downOf b .frequency)
@@ -68,6 +71,7 @@ leastOf UplinkId = pos uplinkIdLeast
 leastOf Dr = pos drLeast
 leastOf Rssi = rssiLeast
 leastOf Snr = snrLeast
+leastOf Odd = pos oddLeast
 leastOf Channel = pos channelLeast
 leastOf RelayId = pos relayIdLeast
 leastOf Hertz = pos hertzLeast
@@ -84,6 +88,7 @@ mostOf UplinkId = pos uplinkIdMost
 mostOf Dr = pos drMost
 mostOf Rssi = rssiMost
 mostOf Snr = snrMost
+mostOf Odd = pos oddMost
 mostOf Channel = pos channelMost
 mostOf RelayId = pos relayIdMost
 mostOf Hertz = pos hertzMost
@@ -105,7 +110,7 @@ unfolding rssiOf
 rssi-within zero h = (refl, refl)
 rssi-within (suc n) h = (le-ltb 254 n (omega arith), refl)
 
-snr-within : (n : ℕ) → Within snrLeast snrMost (snrOf n)
+snr-within : (n : ℕ) → Within snrLeast snrMost (snrOf n .snr)
 unfolding snrOf
 snr-within n = by (ltb (n % 64) 32) refl
   where
@@ -115,6 +120,9 @@ snr-within n = by (ltb (n % 64) 32) refl
         let l = ltb-false (n % 64) 32 e in
         let s : 64 - n % 64 ≡ suc (63 - n % 64) = omega arith in
         rw s (le-ltb 31 (63 - n % 64) (omega arith), refl)
+
+odd-within : (n : ℕ) → n < 256 → Within (pos oddLeast) (pos oddMost) (pos (snrOf n .odd))
+odd-within n h = let o = odd-is n in between 0 3 (snrOf n .odd) (omega arith) (omega arith)
 
 scaled-most : (n : ℕ) → n < 16777216 → (t : Bool) → pick t (n * 200) (n * 100) ≤ 3355443000
 scaled-most n l true = omega arith
@@ -142,6 +150,7 @@ module _ (b : List ℕ) (h : Bytes b) where
   read-within Dr = between 0 15 (getD b 1 0 % 16) (omega arith) (omega arith)
   read-within Rssi = rssi-within (getD b 2 0) (h 2)
   read-within Snr = snr-within (getD b 3 0)
+  read-within Odd = odd-within (getD b 3 0) (h 3)
   read-within Channel = let u = h 4 in between 0 255 (getD b 4 0) (omega arith) (omega arith)
   read-within RelayId = four-within
   read-within Hertz = hertz-within
@@ -163,6 +172,7 @@ both-read UplinkId = ((0, lit< tt, refl), (255, lit< tt, refl))
 both-read Dr = ((0, lit< tt, refl), (255, lit< tt, refl))
 both-read Rssi = ((255, lit< tt, refl), (0, lit< tt, refl))
 both-read Snr = ((32, lit< tt, refl), (31, lit< tt, refl))
+both-read Odd = ((0, lit< tt, refl), (255, lit< tt, refl))
 both-read Channel = ((0, lit< tt, refl), (255, lit< tt, refl))
 both-read RelayId = ((0, lit< tt, refl), (255, lit< tt, refl))
 both-read Hertz = ((0, lit< tt, refl), (255, lit< tt, refl))

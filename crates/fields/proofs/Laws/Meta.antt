@@ -11,16 +11,18 @@ use Rattle.base.specs.Pick.{pick}
 use Rattle.base.specs.Lists.{Bytes}
 use Rattle.base.specs.Answers.{Writing, bytes, refused}
 use Rattle.base.proofs.First.{passed}
+use Rattle.base.proofs.Lists.{listed}
 use Rattle.base.proofs.Answers.{unless-bytes}
 use Rattle.wire.specs.Number.{beBytes}
+use Rattle.fields.specs.Signal.{evenByte, evenAt}
 use Rattle.fields.specs.Freq.{hertzIn}
-use Rattle.fields.specs.Meta.{idBytes, idRefusal, afterRssi, upOf, upWire, downRefusal, afterFreq, downOf, downWire}
+use Rattle.fields.specs.Meta.{idBytes, idRefusal, afterRssi, upOf, even, upWire, downRefusal, afterFreq, downOf, downWire}
 use Rattle.fields.specs.declared.meta.UplinkMetadata.{UplinkMetadata}
 use Rattle.fields.specs.declared.meta.DownlinkMetadata.{DownlinkMetadata}
 use Rattle.fields.specs.declared.signal.SignalByte.{SignalByte}
 use Rattle.fields.specs.declared.signal.SignalByte.the-variants.{Byte, Refused}
 use Rattle.fields.proofs.Laws.Bytes.{none, _▸_, small}
-use Rattle.fields.proofs.Laws.Signal.{rssi-back, rssi-again, rssi-byte-lt, snr-back, snr-again, snr-byte-lt}
+use Rattle.fields.proofs.Laws.Signal.{rssi-back, rssi-again, rssi-byte-lt, snr-back, snr-again, snr-byte-lt, even-other, even-read, even-list}
 use Rattle.fields.proofs.Laws.Freq.{freq-steps, freq-again}
 
 -- ---- the bounds that a chain with no refusal gives
@@ -66,6 +68,9 @@ down-fits m e =
 
 -- ---- what a frame of bytes came of
 
+pub same-bytes : (v w : List ℕ) → bytes v ≡ bytes w → v ≡ w
+same-bytes v w e = cc
+
 -- both signals were accepted, with these bytes
 pub record Signals (before after : List ℕ) (s r : SignalByte) (w : List ℕ) : Type 0 where
   pub rssi : ℕ
@@ -81,8 +86,8 @@ signals before after (Byte s) (Byte r) w e = record { rssi = r; snr = s; rssi-is
 
 -- ---- uplinks
 
--- what is written is read back
-pub up-back : (m : UplinkMetadata) (w : List ℕ) → m .channel < 256 → upWire m ≡ bytes w → (length w ≡ 5) × (Bytes w) × (upOf w ≡ m)
+-- what is written is read back, without odd bits
+pub up-back : (m : UplinkMetadata) (w : List ℕ) → m .channel < 256 → upWire m ≡ bytes w → (length w ≡ 5) × (Bytes w) × (upOf w ≡ even m)
 unfolding upWire
 up-back m w h e =
     let u = unless-bytes _ _ w e in
@@ -96,11 +101,10 @@ up-back m w h e =
     let ls = snr-byte-lt (m .snr) (g .snr) (g .snr-is) in
     rw (g .bytes-are) (refl, small ((omega arith) ▸ (omega arith) ▸ lr ▸ (omega arith) ▸ h ▸ none), rw (i, d, r, s))
 
--- and what is read is written as the same bytes, the two bits above the snr cleared
-pub up-again : (b : List ℕ) → length b ≡ 5 → Bytes b
-    → upWire (upOf b) ≡ bytes (getD b 0 0 ∷ getD b 1 0 ∷ getD b 2 0 ∷ (getD b 3 0 % 64) ∷ getD b 4 0 ∷ [])
+-- and what is read is written as the same bytes, the odd bits cleared
+up-spelt : (b : List ℕ) → Bytes b → upWire (upOf b) ≡ bytes (getD b 0 0 ∷ getD b 1 0 ∷ getD b 2 0 ∷ evenByte (getD b 3 0) ∷ getD b 4 0 ∷ [])
 unfolding upWire idRefusal
-up-again b l h =
+up-spelt b h =
     let x0 = getD b 0 0 in
     let x1 = getD b 1 0 in
     let h0 = h 0 in
@@ -108,6 +112,22 @@ up-again b l h =
     let p : (x0 * 16 + x1 / 16) / 16 % 256 ≡ x0 = omega arith in
     let q : (x0 * 16 + x1 / 16) % 16 * 16 + x1 % 16 ≡ x1 = omega arith in
     simp (le-ltb 4095 (x0 * 16 + x1 / 16) (omega arith), le-ltb 15 (x1 % 16) (omega arith), p, q, rssi-again (getD b 2 0) (h 2), snr-again (getD b 3 0) (h 3))
+
+module _ (b : List ℕ) (l : length b ≡ 5) where
+  pub up-again : Bytes b → upWire (upOf b) ≡ bytes (evenAt b 3)
+  up-again h = up-spelt b h ∙ ap (λ (x : List ℕ). bytes (evenAt x 3)) (listed 5 b l)
+
+  -- so as the same bytes exactly if they were 0
+  pub up-same : Bytes b → (upOf b .odd ≡ 0 → upWire (upOf b) ≡ bytes b) × (upWire (upOf b) ≡ bytes b → upOf b .odd ≡ 0)
+  up-same h =
+      let a = up-again h in
+      let e = even-list b 3 (omega arith) in (λ z. a ∙ ap bytes (e .0 z), λ q. e .1 (same-bytes (evenAt b 3) b (sym a ∙ q)))
+
+-- and all else is read whatever they are
+pub up-even : (b : List ℕ) → 3 < length b → upOf (evenAt b 3) ≡ even (upOf b)
+up-even b l =
+    let o = even-other b 3 in
+    rw (o 0 (λ e. omega arith), o 1 (λ e. omega arith), o 2 (λ e. omega arith), o 4 (λ e. omega arith), even-read b 3 l) refl
 
 -- ---- downlinks
 

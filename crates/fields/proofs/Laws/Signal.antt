@@ -1,17 +1,21 @@
 -- Laws of rssi and snr. Signed numbers go by cases on their sign: omega does not read them. Assumes nothing.
-use Prim.Native.Nat.{ℕ, zero, suc, _+_, _-_, _%_, _<_, _≤_, _^_}
+use Prim.Native.Nat.{ℕ, zero, suc, _+_, _-_, _/_, _%_, _<_, _≤_, _^_}
 use native.Mathlib.Omega.{arith}
 use mathlib.Core.Bool.{Bool, true, false}
-use mathlib.Core.Path.{_≡_, refl, ap}
+use mathlib.Core.Path.{_≡_, refl, sym, ap, _∙_}
+use mathlib.Core.List.{List}
 use lib.IntN.{ℤ, pos, negsuc, negℤ, natAbs, _-ℤ_, _+ℤ_}
 use lib.Signed.{ltZ, nonNeg}
 use lib.Dec.{T, ltb, lit<}
+use lib.ListN.{length, getD, set}
+use lib.Seq.{getD-set-same, getD-set-other, set-getD}
 use mir.Syntax.{Width, w8, w16}
 use mir.Val.{SFits, hbits}
 use borrow.Author.Tests.{lt-ltb, le-ltb, ltb-true, ltb-false}
 use Rattle.base.specs.Pick.{pick}
 use Rattle.base.specs.Numbers.{rssiLarge, rssiSmall, snrSmall, snrLarge}
-use Rattle.fields.specs.Signal.{rssiOf, snrOf, rssiByte, snrByte}
+use Rattle.fields.specs.Signal.{rssiOf, evenByte, evenAt, snrOf, rssiByte, snrByte}
+use Rattle.fields.specs.declared.signal.SnrRead.{SnrRead}
 use Rattle.fields.specs.declared.signal.SignalByte.the-variants.{Byte, Refused}
 
 -- ---- what the code computes, by the tests that it makes
@@ -116,31 +120,62 @@ unfolding snrByte
 snr-byte-lt (pos n) b e = let p = of-pick (ltb n 32) n snrLarge b e in let l = ltb-true n 32 (p .0) in omega arith
 snr-byte-lt (negsuc n) b e = let p = of-pick (ltb n 32) (63 - n) snrSmall b e in omega arith
 
-pub snr-back : (x : ℤ) (b : ℕ) → snrByte x ≡ Byte b → snrOf b ≡ x
+-- what is written is read back, without odd bits
+abbrev pub evenRead : ℤ → SnrRead
+evenRead x = record { snr = x; odd = 0 }
+
+pub snr-back : (x : ℤ) (b : ℕ) → snrByte x ≡ Byte b → snrOf b ≡ evenRead x
 unfolding snrByte snrOf
 snr-back (pos n) b e =
     let p = of-pick (ltb n 32) n snrLarge b e in
     let l = ltb-true n 32 (p .0) in
     let s : b % 64 ≡ n = omega arith in
-    rw s (simp (lt-ltb n 32 l))
+    let o : b / 64 ≡ 0 = omega arith in
+    rw (s, o) (simp (lt-ltb n 32 l))
 snr-back (negsuc n) b e =
     let p = of-pick (ltb n 32) (63 - n) snrSmall b e in
     let l = ltb-true n 32 (p .0) in
     let s : 64 - b % 64 ≡ suc n = omega arith in
-    simp (le-ltb (b % 64) 32 (omega arith), s)
+    let o : b / 64 ≡ 0 = omega arith in
+    simp (le-ltb (b % 64) 32 (omega arith), s, o)
 
--- the two bits above the six are not read, and are written as 0
-pub snr-again : (b : ℕ) → b < 256 → snrByte (snrOf b) ≡ Byte (b % 64)
+-- and what is read is written without them
+pub snr-again : (b : ℕ) → b < 256 → snrByte (snrOf b .snr) ≡ Byte (evenByte b)
 unfolding snrByte snrOf
 snr-again b h = by (ltb (b % 64) 32) refl
   where
-    by : (t : Bool) → ltb (b % 64) 32 ≡ t → snrByte (snrOf b) ≡ Byte (b % 64)
+    by : (t : Bool) → ltb (b % 64) 32 ≡ t → snrByte (snrOf b .snr) ≡ Byte (b % 64)
     by true e = simp e
     by false e =
         let l = ltb-false (b % 64) 32 e in
         let s : 64 - b % 64 ≡ suc (63 - b % 64) = omega arith in
         simp (e, s, lt-ltb (63 - b % 64) 32 (omega arith)) (ap Byte (omega arith))
 
-pub snr-cleared : (b : ℕ) → b < 256 → snrOf (b % 64) ≡ snrOf b
+-- the odd bits do not count but as such, and the byte is written as it was exactly if they are 0
+pub snr-even : (b : ℕ) → snrOf (evenByte b) ≡ evenRead (snrOf b .snr)
 unfolding snrOf
-snr-cleared b h = let s : b % 64 % 64 ≡ b % 64 = omega arith in rw s
+snr-even b =
+    let s : b % 64 % 64 ≡ b % 64 = omega arith in
+    let o : b % 64 / 64 ≡ 0 = omega arith in
+    rw (s, o)
+
+pub odd-is : (b : ℕ) → snrOf b .odd ≡ b / 64
+unfolding snrOf
+odd-is b = refl
+
+-- of a list of bytes
+pub even-other : (b : List ℕ) (i k : ℕ) → (k ≡ i → ⊥) → getD (evenAt b i) k 0 ≡ getD b k 0
+even-other b i k n = getD-set-other b i k (evenByte (getD b i 0)) 0 n
+
+pub even-read : (b : List ℕ) (i : ℕ) → i < length b → snrOf (getD (evenAt b i) i 0) ≡ evenRead (snrOf (getD b i 0) .snr)
+even-read b i l = ap snrOf (getD-set-same b i (evenByte (getD b i 0)) 0 l) ∙ snr-even (getD b i 0)
+
+pub even-same : (b : ℕ) → (snrOf b .odd ≡ 0 → evenByte b ≡ b) × (evenByte b ≡ b → snrOf b .odd ≡ 0)
+even-same b = let o = odd-is b in (λ e. omega arith, λ e. omega arith)
+
+pub even-list : (b : List ℕ) (i : ℕ) → i < length b → (snrOf (getD b i 0) .odd ≡ 0 → evenAt b i ≡ b) × (evenAt b i ≡ b → snrOf (getD b i 0) .odd ≡ 0)
+even-list b i l =
+    let x = getD b i 0 in (
+      λ e. ap (set b i) (even-same x .0 e) ∙ set-getD b i 0,
+      λ e. even-same x .1 (sym (getD-set-same b i (evenByte x) 0 l) ∙ ap (λ (y : List ℕ). getD y i 0) e),
+    )

@@ -10,7 +10,7 @@ use Rattle.wire.specs.Number.{beBytes}
 use Rattle.wire.specs.Lay.{put}
 use Rattle.fields.specs.declared.header.PayloadType.{PayloadType}
 use Rattle.fields.specs.declared.header.PayloadType.the-variants.{Uplink, Downlink, Event, Command}
-use Rattle.round_trips.specs.Which.{lowSix}
+use Rattle.fields.specs.Signal.{evenAt}
 use Rattle.mic.specs.Mic.{micOf}
 
 abbrev pub isUplink : PayloadType → Bool
@@ -23,9 +23,9 @@ isUplink Command = false
 abbrev pub micAt : List ℕ → ℕ
 micAt s = length s - 4
 
--- header byte b, and an uplink's two ignored bits as 0
+-- header byte b, and an uplink's odd bits as 0
 unfoldable pub renewed : ℕ → Bool → List ℕ → List ℕ
-renewed b up s = pick up (lowSix (set s 0 b) 4) (set s 0 b)
+renewed b up s = pick up (evenAt (set s 0 b) 4) (set s 0 b)
 
 -- the MIC over all before a place, laid there
 unfoldable pub micLaid : (List ℕ → List ℕ) → ℕ → List ℕ → List ℕ

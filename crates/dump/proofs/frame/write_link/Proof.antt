@@ -13,11 +13,11 @@ use Rattle.dump.proofs.frame.write_link.Tie as tie
 
 returns : tie.Need-returns
 returns c = let a = c .before .before .before .before .before .before .before .before .args in
-    same-frame _ _ _ _ _ (ap (λ (l : List ℕ). bytes (lineOf (a .t) (a .hops) (ascii ", uplink_id: ") (a .id) (a .relay) l)) (mic-none (a .has-mic) (a .mic) (c .before .before .before .before .before .before .if1 .taken))) (c .before .before .write-line .ensures)
+    same-frame _ _ _ _ _ (ap (λ (l : List ℕ). bytes (lineOf (a .t) (a .hops) (ascii ", uplink_id: ") (a .id) (a .relay) l (a .odd))) (mic-none (a .has-mic) (a .mic) (c .before .before .before .before .before .before .if1 .taken))) (c .before .before .write-line .ensures)
 
 returns-2 : tie.Need-returns-2
 returns-2 c = let a = c .before .before .before .before .before .before .before .before .before .before .before .before .before .before .before .args in
-    same-frame _ _ _ _ _ (ap (λ (l : List ℕ). bytes (lineOf (a .t) (a .hops) (ascii ", uplink_id: ") (a .id) (a .relay) l)) (mic-tail (a .has-mic) (a .mic) _ _ (c .before .before .before .before .before .before .before .before .before .before .before .before .before .if1 .left) (c .before .before .before .before .before .before .before .before .before .before .put-all .ensures) (c .before .before .before .before .before .before .before .put-four .ensures))) (c .before .before .write-line2 .ensures)
+    same-frame _ _ _ _ _ (ap (λ (l : List ℕ). bytes (lineOf (a .t) (a .hops) (ascii ", uplink_id: ") (a .id) (a .relay) l (a .odd))) (mic-tail (a .has-mic) (a .mic) _ _ (c .before .before .before .before .before .before .before .before .before .before .before .before .before .if1 .left) (c .before .before .before .before .before .before .before .before .before .before .put-all .ensures) (c .before .before .before .before .before .before .before .put-four .ensures))) (c .before .before .write-line2 .ensures)
 
 pub write-link-spec : {M : Type 1} → statement M
 write-link-spec = tie.close (tie.spec (λ c. search needs) (λ c. search needs) (λ c κs. search needs) (λ c. search needs) returns (λ c. search needs) (λ c. search needs) (λ c κs. search needs) (λ c. search needs) (λ c κs. search needs) (λ c. search needs) (λ c. search needs) (λ c κs. search needs) (λ c. search needs) returns-2)

@@ -10,8 +10,8 @@ use Rattle.dump.proofs.frame.write_mesh.Tie as tie
 
 returns : tie.Need-returns
 unfolding meshText
-returns c = let p = c .before .before .before .before .before .before .before .before .before .args .packet in
-    same-frame _ _ _ _ _ (ap (λ (q : Payload). bytes (payloadText (p .mhdr .«payload_type») (p .mhdr .«hop_count») (p .«has_mic») (p .mic) q)) (c .before .before .before .before .before .payload .given .1)) (c .before .before .write-link .ensures)
+returns c = let p = c .before .before .before .before .before .before .before .before .before .before .args .packet in
+    same-frame _ _ _ _ _ (ap (λ (q : Payload). bytes (payloadText (p .mhdr .«payload_type») (p .mhdr .«hop_count») (p .«has_mic») (p .mic) q)) (c .before .before .before .before .before .before .payload .given .1)) (c .before .before .write-link .ensures)
 
 returns-2 : tie.Need-returns-2
 unfolding meshText

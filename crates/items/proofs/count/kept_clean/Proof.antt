@@ -5,7 +5,7 @@ use Rattle.items.proofs.count.kept_clean.Statement.{statement}
 use Rattle.items.proofs.count.kept_clean.Tie as tie
 
 returns : tie.Need-returns
-returns c = c .ignored-clear .ensures ∙ sym (simp (sym (c .before .before .is-beat .ensures) ∙ c .before .if1 .taken))
+returns c = c .all-even .ensures ∙ sym (simp (sym (c .before .before .is-beat .ensures) ∙ c .before .if1 .taken))
 
 returns-2 : tie.Need-returns-2
 returns-2 c = sym (simp (sym (c .before .is-beat .ensures) ∙ c .if1 .left))

@@ -14,7 +14,10 @@ returns c =
       ap (λ (p : RelayPath). p .«relay_id») e,
       (
         toZ-ofZ {w = w16} (record { sfits = c .before .struct-told .given .1 .0 .1 }) ∙ ap (λ (p : RelayPath). p .rssi) e,
-        toZ-ofZ {w = w8} (record { sfits = c .struct-told2 .given .1 .1 .0 .1 }) ∙ ap (λ (p : RelayPath). p .snr) e,
+        (
+          toZ-ofZ {w = w8} (record { sfits = c .struct-told2 .given .1 .1 .0 .1 }) ∙ ap (λ (p : RelayPath). p .snr) e,
+          ap (λ (p : RelayPath). p .odd) e,
+        ),
       ),
     )
 

@@ -17,10 +17,10 @@ use Rattle.mesh_c.proofs.field.mesh_path_write.Tie as tie
 made :
     (c : tie.After-to-bytes) →
     let a = c .before .args in
-    c .to-bytes .result ≡ pathBytes (record { «relay_id» = a .relay-id; rssi = a .rssi; snr = a .snr })
+    c .to-bytes .result ≡ pathBytes (record { «relay_id» = a .relay-id; rssi = a .rssi; snr = a .snr; odd = 0 })
 made c = let a = c .before .args in
     c .to-bytes .ensures
-    ∙ ap₂ (λ (x y : ℤ). pathBytes (record { «relay_id» = a .relay-id; rssi = x; snr = y }))
+    ∙ ap₂ (λ (x y : ℤ). pathBytes (record { «relay_id» = a .relay-id; rssi = x; snr = y; odd = 0 }))
     (toZ-ofZ {w = w16} (c .before .fits .rssi))
     (toZ-ofZ {w = w8} (c .before .fits .snr))
 

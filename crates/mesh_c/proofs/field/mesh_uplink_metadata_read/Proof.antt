@@ -12,11 +12,12 @@ use Rattle.mesh_c.proofs.field.mesh_uplink_metadata_read.Tie as tie
 -- the two signed numbers go through their bits
 returns : tie.Need-returns
 returns c =
-    let e = c .before .before .before .before .before .before .from-bytes .ensures in
+    let e = c .before .before .before .before .before .before .before .from-bytes .ensures in
     let n =
-    ap₂ _∷_ (c .before .before .before .before .before .from-u16 .ensures)
-    (ap₂ _∷_ (c .before .before .before .before .from-u8 .ensures)
-    (ap₂ _∷_ (c .before .before .before .from-u82 .ensures) refl)) in (
+    ap₂ _∷_ (c .before .before .before .before .before .before .from-u16 .ensures)
+    (ap₂ _∷_ (c .before .before .before .before .before .from-u8 .ensures)
+    (ap₂ _∷_ (c .before .before .before .before .from-u82 .ensures)
+    (ap₂ _∷_ (c .before .before .before .from-u83 .ensures) refl))) in (
       n ∙ ap upList e,
       (
         toZ-ofZ {w = w16} (record { sfits = c .before .struct-told .given .1 .1 .0 .1 }) ∙ ap (λ (m : UplinkMetadata). m .rssi) e,
@@ -25,4 +26,4 @@ returns c =
     )
 
 pub mesh-uplink-metadata-read-spec : {M : Type 1} → statement M
-mesh-uplink-metadata-read-spec = tie.close (tie.spec (λ c κs. search needs) (λ c κs. search needs) (λ c κs. search needs) (λ c κs. search needs) returns)
+mesh-uplink-metadata-read-spec = tie.close (tie.spec (λ c κs. search needs) (λ c κs. search needs) (λ c κs. search needs) (λ c κs. search needs) (λ c κs. search needs) returns)

@@ -17,10 +17,10 @@ use Rattle.mesh_c.proofs.field.mesh_uplink_metadata_write.Tie as tie
 made :
     (c : tie.After-to-bytes) →
     let a = c .before .args in
-    c .to-bytes .result ≡ upBytes (record { «uplink_id» = a .uplink-id; dr = a .dr; rssi = a .rssi; snr = a .snr; channel = a .channel })
+    c .to-bytes .result ≡ upBytes (record { «uplink_id» = a .uplink-id; dr = a .dr; rssi = a .rssi; snr = a .snr; channel = a .channel; odd = 0 })
 made c = let a = c .before .args in
     c .to-bytes .ensures
-    ∙ ap₂ (λ (x y : ℤ). upBytes (record { «uplink_id» = a .uplink-id; dr = a .dr; rssi = x; snr = y; channel = a .channel }))
+    ∙ ap₂ (λ (x y : ℤ). upBytes (record { «uplink_id» = a .uplink-id; dr = a .dr; rssi = x; snr = y; channel = a .channel; odd = 0 }))
     (toZ-ofZ {w = w16} (c .before .fits .rssi))
     (toZ-ofZ {w = w8} (c .before .fits .snr))
 

@@ -6,7 +6,7 @@ use denote.Ref.{now}
 use Rattle.base.specs.Answers.{numberIn, leftBy}
 use Rattle.heartbeats.specs.Heartbeat.{pathSays}
 use Rattle.heartbeats.specs.declared.heartbeat.PathRead.{PathRead}
-use Rattle.mesh_c.specs.Face.{entryRelay, entryRssi, entrySnr}
+use Rattle.mesh_c.specs.Face.{entryRelay, entryRssi, entrySnr, entryOdd}
 use borrow.Author.Needs.{needs}
 use Rattle.mesh_c.proofs.item.mesh_heartbeat_entry.Statement.{statement}
 use Rattle.mesh_c.proofs.item.mesh_heartbeat_entry.Tie as tie
@@ -20,7 +20,10 @@ returns c =
         ap (λ (r : PathRead). leftBy entryRelay (now (a .relay-id)) (pathSays r)) e,
         (
           ap (λ (r : PathRead). leftBy entryRssi (now (a .rssi)) (pathSays r)) e,
-          ap (λ (r : PathRead). leftBy entrySnr (now (a .snr)) (pathSays r)) e,
+          (
+            ap (λ (r : PathRead). leftBy entrySnr (now (a .snr)) (pathSays r)) e,
+            ap (λ (r : PathRead). leftBy entryOdd (now (a .odd)) (pathSays r)) e,
+          ),
         ),
       ),
     )
@@ -35,7 +38,10 @@ returns-2 c =
         ap (λ (r : PathRead). leftBy entryRelay (now (a .relay-id)) (pathSays r)) e,
         (
           toZ-ofZ {w = w16} (record { sfits = c .before .struct-told .given .1 .0 .1 }) ∙ ap (λ (r : PathRead). leftBy entryRssi (now (a .rssi)) (pathSays r)) e,
-          toZ-ofZ {w = w8} (record { sfits = c .struct-told2 .given .1 .1 .0 .1 }) ∙ ap (λ (r : PathRead). leftBy entrySnr (now (a .snr)) (pathSays r)) e,
+          (
+            toZ-ofZ {w = w8} (record { sfits = c .struct-told2 .given .1 .1 .0 .1 }) ∙ ap (λ (r : PathRead). leftBy entrySnr (now (a .snr)) (pathSays r)) e,
+            ap (λ (r : PathRead). leftBy entryOdd (now (a .odd)) (pathSays r)) e,
+          ),
         ),
       ),
     )

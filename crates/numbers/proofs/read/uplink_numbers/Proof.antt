@@ -9,7 +9,7 @@ use Rattle.numbers.proofs.read.uplink_numbers.Tie as tie
 returns : tie.Need-returns
 unfolding meshNumbers
 returns c =
-    ap₂ _∷_ refl (ap₂ _∷_ (c .before .before .before .before .before .before .to-byte .ensures) (ap₂ _∷_ refl (ap₂ _∷_ (c .before .before .before .before .from-bool .ensures) refl)))
+    ap₂ _∷_ refl (ap₂ _∷_ (c .before .before .before .before .before .before .before .to-byte .ensures) (ap₂ _∷_ refl (ap₂ _∷_ (c .before .before .before .before .before .from-bool .ensures) refl)))
 
 pub uplink-numbers-spec : {M : Type 1} → statement M
-uplink-numbers-spec = tie.close (tie.spec (λ c. search needs) (λ c κs. search needs) (λ c. search needs) (λ c. search needs) (λ c κs. search needs) (λ c. search needs) (λ c. search needs) (λ c. search needs) (λ c. search needs) returns)
+uplink-numbers-spec = tie.close (tie.spec (λ c. search needs) (λ c κs. search needs) (λ c. search needs) (λ c. search needs) (λ c κs. search needs) (λ c. search needs) (λ c. search needs) (λ c. search needs) (λ c. search needs) (λ c. search needs) returns)
