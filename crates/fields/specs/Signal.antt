@@ -1,4 +1,4 @@
--- The bytes of rssi and snr, 5.6 to 5.8 of the rules. `pos n` is n, and `negsuc n` is -(n + 1). Assumes nothing.
+-- The bytes of rssi and snr, 5.6 and 5.7 of the rules. `pos n` is n, and `negsuc n` is -(n + 1). Assumes nothing.
 use Prim.Native.Nat.{ℕ, zero, suc, _+_, _-_, _/_, _%_}
 use mathlib.Core.List.{List}
 use lib.IntN.{ℤ, pos, negsuc, negℤ}
@@ -18,7 +18,7 @@ rssiOf b = negℤ (pos b)
 abbrev pub evenByte : ℕ → ℕ
 evenByte b = b % 64
 
--- a list of bytes, of which byte i is an snr byte, so
+-- the same of byte i of a list
 abbrev pub evenAt : List ℕ → ℕ → List ℕ
 evenAt b i = set b i (evenByte (getD b i 0))
 
