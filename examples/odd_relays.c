@@ -1,8 +1,8 @@
-/* Which relays set odd bits, and how often. Reads frames from standard input, a line of hex each, as mesh-dump does, of any number of lines; lines
- * that are no mesh frame are passed over. With a root key (32 digits) it opens events too, and looks at the paths of their heartbeats. A relay that
- * passes a frame on clears the bits, so what is found was set by the relay that the uplink or the entry names. No MIC covers them: none is asked.
+/* Which relays set odd bits, and how often. Reads frames from standard input, a line of hex each, as mesh-dump does, of any number of lines. A relay
+ * that passes an uplink on clears its bits, so only those with a hop count of 1 tell of the relay that they name. With a root key (32 digits) events
+ * that validate are opened too, and the entries of their paths counted. How many lines were read, and how many were no frame of the mesh, is said on
+ * standard error. docs/LINKING.md says how to build it.
  *
- *     cc -Iinclude examples/odd_relays.c target/staticlib/libmesh_c.a -o odd_relays
  *     ./odd_relays < FILE
  *     ./odd_relays 000102030405060708090a0b0c0d0e0f < FILE */
 #include <inttypes.h>
@@ -70,7 +70,8 @@ static void look_at_paths(const mesh_packet *p, const uint8_t *work) {
 
 int main(int argc, char **argv) {
     static uint8_t frame[MESH_FRAME_MOST], work[MESH_PAYLOAD_MOST];
-    uint8_t root[16], key[16];
+    uint8_t root[16], signing[16], key[16];
+    uint64_t lines = 0, passed_over = 0;
     mesh_packet p;
     mesh_counts counts;
     if (mesh_version() != MESH_VERSION) return 1;
@@ -78,14 +79,19 @@ int main(int argc, char **argv) {
         fprintf(stderr, "usage: odd_relays [ROOT KEY, of 32 digits] < FRAMES\n");
         return 1;
     }
-    if (argc == 2) mesh_encryption_key(root, key);
-    for (long n; (n = next_frame(frame)) >= 0;) {
-        if (mesh_packet_read_mesh(&p, frame, (size_t)n)) continue;
-        if (p.kind == MESH_UPLINK) {
+    if (argc == 2) mesh_signing_key(root, signing), mesh_encryption_key(root, key);
+    for (long n; (n = next_frame(frame)) >= 0; lines++) {
+        const mesh_lent lent = mesh_lent_frame(frame, (size_t)n);
+        bool valid = false;
+        if (mesh_packet_read_mesh(&p, frame, (size_t)n)) {
+            passed_over++;
+        } else if (p.kind == MESH_UPLINK && p.hop_count == 1) {
             struct seen *by = relay((uint32_t)p.relay_id);
             by->uplinks++;
             by->odd_uplinks += p.odd != 0;
         } else if (p.kind == MESH_EVENT && argc == 2) {
+            /* what another key sealed would open to anything */
+            if (mesh_packet_validate(&p, signing, &lent, &valid) || !valid) continue;
             if (mesh_packet_decrypt(&p, key, frame, (size_t)n, work, sizeof work, &counts) == 0 && p.content == MESH_OPEN_IN_WORK)
                 look_at_paths(&p, work);
         }
@@ -98,5 +104,7 @@ int main(int argc, char **argv) {
         printf("\n");
     }
     free(relays);
-    return 0;
+    fprintf(stderr, "%" PRIu64 " lines, %" PRIu64 " of them no frame of the mesh\n", lines, passed_over);
+    if (ferror(stdin)) fprintf(stderr, "the input cannot be read\n");
+    return ferror(stdin) != 0;
 }

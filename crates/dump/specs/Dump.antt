@@ -1,8 +1,8 @@
 -- The text of a frame, and of a line of hex over it. No newline is in either. Assumes nothing.
 use Prim.Native.Nat.{ℕ, zero, suc, _+_, _-_, _*_, _/_, _%_}
-use mathlib.Core.Bool.{Bool, true, not}
+use mathlib.Core.Bool.{Bool, true, false, not}
 use mathlib.Core.List.{List, [], _∷_, _++_}
-use lib.Dec.{ltb, eqb}
+use lib.Dec.{ltb, leb, eqb}
 use lib.ListN.{length}
 use Rattle.base.specs.Pick.{pick}
 use Rattle.base.specs.Numbers.{lineDigits}
@@ -52,9 +52,12 @@ nameOf Command = ascii "Command"
 unfoldable pub labelOf : PayloadType → List ℕ
 labelOf t = ascii "[" ++ nameOf t ++ ascii " hop_count: "
 
--- odd bits, where there are any: one digit, 1 to 3
+-- odd bits are told where there are some, and no more than two: one digit, 1 to 3
+abbrev pub isTold : ℕ → Bool
+isTold n = pick (eqb n 0) false (leb n oddMost)
+
 unfoldable pub oddText : ℕ → List ℕ
-oddText n = pick (ltb 0 n) (pick (ltb oddMost n) [] (ascii " odd: " ++ ((48 + n) ∷ []))) []
+oddText n = pick (isTold n) (ascii " odd: " ++ ((48 + n) ∷ [])) []
 
 -- word and tail are what uplinks and events have of their own
 unfoldable pub lineOf : PayloadType → ℕ → List ℕ → ℕ → ℕ → List ℕ → ℕ → List ℕ

@@ -5,7 +5,7 @@ ghost use lib.ListN.{length};
 ghost use Prim.Native.Nat.{_+_, _≤_};
 ghost use Rattle.base.specs.Answers.{bytes, answerOf, outOf};
 ghost use Rattle.wire.specs.Lay.{put};
-ghost use Rattle.dump.specs.Dump.{labelOf, fourText, oddText, withNumber, refusedText, lineOf, linkText, stampedText, meshText, frameText};
+ghost use Rattle.dump.specs.Dump.{labelOf, fourText, isTold, oddText, withNumber, refusedText, lineOf, linkText, stampedText, meshText, frameText};
 use crate::digits::put_decimal;
 use crate::digits::width;
 use base::Refusal;
@@ -75,30 +75,33 @@ fn put_four(n: u32, out: &mut [u8], at: usize)
     write_hex(&be32_bytes(n), out, at)
 }
 
-// Odd bits, and how long they are: nothing where there are none, or more than two.
+// Whether odd bits are told: there are some, and no more than two.
+fn is_told(odd: u8) -> bool
+    ensures { λ r. ⌜ r ≡ isTold odd ⌝ }
+{
+    if odd == 0 {
+        return false;
+    }
+    odd <= Odd::MOST
+}
+
+// They, and how long they are.
 fn put_odd(odd: u8, out: &mut [u8], at: usize)
     ensures { λ _. ⌜ now (out .exit) ≡ put (now (out .entry)) at (oddText odd) ⌝ }
 {
-    if odd == 0 {
-        return;
+    if is_told(odd) {
+        put_all(&[b' ', b'o', b'd', b'd', b':', b' ', b'0' + odd], out, at);
     }
-    if Odd::MOST < odd {
-        return;
-    }
-    put_all(&[b' ', b'o', b'd', b'd', b':', b' ', b'0' + odd], out, at)
 }
 
 fn odd_len(odd: u8) -> usize
     ensures { λ r. ⌜ r ≡ length (oddText odd) ⌝ }
     ensures { λ r. ⌜ r ≤ 7 ⌝ }
 {
-    if odd == 0 {
-        return 0;
+    if is_told(odd) {
+        return 7;
     }
-    if Odd::MOST < odd {
-        return 0;
-    }
-    7
+    0
 }
 
 // Label and hop count, a word and its number, the relay id and what follows it, odd bits, one after the other, and last the closing bracket;

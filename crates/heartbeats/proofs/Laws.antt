@@ -152,6 +152,21 @@ wire-was ps w = by (eqb (firstOf badEntry ps) 0) (ltb pathMost (length ps)) refl
     by true true hs ht e = let z : _≡_ {A = ℕ} 0 1 = cc in absurd (omega arith)
     by true false hs ht e = (eqb-true _ _ hs, ltb-false _ _ ht, cc)
 
+-- odd bits are not looked at
+even-first : (ps : List RelayPath) → firstOf badEntry (map evenEntry ps) ≡ firstOf badEntry ps
+unfolding firstOf badEntry pathWire
+even-first [] = refl
+even-first (p ∷ ps) = ap (orElse (badEntry p)) (even-first ps)
+
+even-joined : (ps : List RelayPath) → joined sixOf (map evenEntry ps) ≡ joined sixOf ps
+unfolding joined sixOf pathWire
+even-joined [] = refl
+even-joined (p ∷ ps) = ap (λ (w : List ℕ). sixOf p ++ w) (even-joined ps)
+
+pub even-beat : (ps : List RelayPath) → beatWire (map evenEntry ps) ≡ beatWire ps
+unfolding beatWire
+even-beat ps = rw (even-first ps, even-joined ps, length-map ps evenEntry) refl
+
 -- ---- reading what was written: without odd bits
 
 six-first : (s v : List ℕ) → length s ≡ 6 → sixAt (s ++ v) 0 ≡ s

@@ -106,7 +106,7 @@ packet-reader-refuses s n e = says-number n (packetSays (packetOf s)) (packet-re
 pub read-then-written : (s : List ℕ) (x : Lists) (p : MeshPacket) → Bytes s → meshSays (meshOf s) ≡ value p → meshFrame (framed s x) p ≡ bytes (cleared s)
 read-then-written s x p b e = again s x p b (mesh-said (meshOf s) p e)
 
--- 5.7: without its odd bits a frame is read as the same packet without them, and it is written again as it was exactly if there were none
+-- 5.18: without its odd bits a frame is read as the same packet without them, and it is written again as it was exactly if there were none
 pub read-but-for-odd-bits : (s : List ℕ) (p : MeshPacket) → Bytes s → meshSays (meshOf s) ≡ value p → meshSays (meshOf (cleared s)) ≡ value (evenMesh p)
 read-but-for-odd-bits s p b e = ap meshSays (frame-even s p b (mesh-said (meshOf s) p e))
 

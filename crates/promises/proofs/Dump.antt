@@ -78,8 +78,7 @@ unfolding oddText
 odd-bits-are-one-digit = (refl, refl, refl, refl, odd-large)
 
 pub odd-lines :
-    (lineText (ascii "e012355007020a0b0c0d11223344") ≡ ascii "[Uplink hop_count: 1, uplink_id: 291, relay_id: 0a0b0c0d, mic: 11223344]")
-    × (lineText (ascii "e012355047020a0b0c0d11223344") ≡ ascii "[Uplink hop_count: 1, uplink_id: 291, relay_id: 0a0b0c0d, mic: 11223344 odd: 1]")
+    (lineText (ascii "e012355047020a0b0c0d11223344") ≡ ascii "[Uplink hop_count: 1, uplink_id: 291, relay_id: 0a0b0c0d, mic: 11223344 odd: 1]")
     × (lineText (ascii "e012355087020a0b0c0d11223344") ≡ ascii "[Uplink hop_count: 1, uplink_id: 291, relay_id: 0a0b0c0d, mic: 11223344 odd: 2]")
     × (lineText (ascii "e0123550c7020a0b0c0d11223344") ≡ ascii "[Uplink hop_count: 1, uplink_id: 291, relay_id: 0a0b0c0d, mic: 11223344 odd: 3]")
 odd-lines = examples.odd-lines

@@ -2,12 +2,13 @@
 -- accepts. Whatever other number it answers, 255 of `mesh_decode` too, every place that was lent to it is as before. Assumes nothing.
 use Prim.Native.Nat.{ℕ, _<_}
 use native.Mathlib.Omega.{arith}
-use mathlib.Core.Bool.{Bool, true, false}
-use mathlib.Core.Path.{_≡_, refl, sym, _∙_}
+use mathlib.Core.Bool.{Bool, true, false, not}
+use mathlib.Core.Path.{_≡_, refl, sym, ap, _∙_}
 use mathlib.Core.List.{List, _++_}
 use lib.Dec.{ltb, eqb}
 use lib.IntN.{ℤ, pos}
-use lib.ListN.{length, drop, getD}
+use lib.ListN.{length, drop, getD, set}
+use lib.Seq.{getD-set-other}
 use borrow.Author.Tests.{lt-ltb, le-ltb, ne-eqb}
 use Rattle.base.specs.Pick.{pick}
 use Rattle.base.specs.Numbers.{typeLarge}
@@ -38,8 +39,9 @@ use Rattle.events.specs.declared.stamped.EventRead.the-variants as event
 use Rattle.events.specs.declared.stamped.CommandPayload.{CommandPayload}
 use Rattle.events.specs.declared.stamped.CommandRead.{CommandRead}
 use Rattle.events.specs.declared.stamped.CommandRead.the-variants as command
-use Rattle.packets.specs.Read.{ofUplink, ofDownlink, ofEvent, ofCommand, ofMesh, meshSays, packetSays}
-use Rattle.packets.specs.Write.{payloadWire, packetFrame}
+use Rattle.packets.specs.Read.{ofUplink, ofDownlink, ofEvent, ofCommand, ofMesh, meshSays, packetSays, evenPayload, evenMesh}
+use Rattle.packets.specs.Write.{payloadWire, meshFrame, packetFrame}
+use Rattle.round_trips.proofs.Even.{even-written}
 use Rattle.packets.specs.declared.mesh.PayloadRead.{PayloadRead}
 use Rattle.packets.specs.declared.mesh.PayloadRead.the-variants as body
 use Rattle.sealing.specs.Mesh.{sealOf, meshSealed, ofEventOpened, ofCommandOpened, meshDecrypted, meshWork, meshDecoded, meshOpenedSays}
@@ -64,7 +66,7 @@ use Rattle.cache.specs.Cache.{addSays}
 use Rattle.cache.specs.declared.ring.CacheAnswer.the-variants.{Refused as NotAdded}
 use Rattle.cache_words.specs.inner.Packed.{clearAnswer, clearWords}
 use Rattle.dump.specs.Dump.{meshText}
-use Rattle.numbers.specs.Numbers.{bodyRead, around, bareBy, tooWide, strangeContent, typedBy, kindBy, meshFrom, packetFrom, ifPacket, numbersFrame, runFrom}
+use Rattle.numbers.specs.Numbers.{bodyRead, around, bareBy, atMost, tooWide, strangeContent, contentFrom, payloadFrom, typedBy, kindBy, meshFrom, packetFrom, ifPacket, numbersFrame, runFrom}
 use Rattle.mesh_c.specs.Face.{headerByteBy, ifMesh, numbersBody, numbersText, numbersSigned, numbersValid, numbersSealed, numbersSeal, numbersDecrypted, numbersWork, numbersDecoded, openedNumber, countsLeft, openedLeft, recordWide, recordFrom, answerBy, wordsBy, cacheAnswer, cacheWords}
 use Rattle.promises.specs.Said.{Accepts, Numbered}
 use Rattle.promises.proofs.Demand1.{refused-writes-nothing, refused-edit-changes-nothing, refused-clear-changes-nothing, refused-add-changes-no-word, refused-sealing-writes-nothing}
@@ -418,3 +420,79 @@ pub zero-is-opened : {A : Type 0} (a : Answer (Told A)) → Numbered a
 zero-is-opened (value (told v o)) s = (λ e. (v, o, refl), λ w k e. refl)
 zero-is-opened (value wasOpen) s = (λ e. absurd (omega arith), λ w k e. let z : _≡_ {A = ℕ} 0 1 = cc in absurd (omega arith))
 zero-is-opened (number n) s = (λ e. absurd (omega arith), λ w k e. let z : _≡_ {A = ℕ} 0 1 = cc in absurd (omega arith))
+
+-- 6.7: any number of odd bits is taken, and writes the same
+module _ (l : Lent) (ns : List ℕ) (n : ℕ) (rssi snr : ℤ) where
+  abbrev other : List ℕ
+  other = set ns 16 n
+
+  at : (i : ℕ) → (i ≡ 16 → ⊥) → getD other i 0 ≡ getD ns i 0
+  at i h = getD-set-other ns 16 i n 0 h
+
+  run-same : runFrom other ≡ runFrom ns
+  run-same = rw (at 14 (λ e. omega arith), at 15 (λ e. omega arith)) refl
+
+  wide-same : tooWide other ≡ tooWide ns
+  unfolding tooWide
+  wide-same = rw (at 4 (λ e. omega arith), at 5 (λ e. omega arith), at 6 (λ e. omega arith), at 8 (λ e. omega arith), at 12 (λ e. omega arith)) refl
+
+  strange-same : strangeContent other ≡ strangeContent ns
+  unfolding strangeContent
+  strange-same = rw (at 0 (λ e. omega arith), at 13 (λ e. omega arith)) refl
+
+  content-same : contentFrom other ≡ contentFrom ns
+  unfolding contentFrom
+  content-same = rw (at 13 (λ e. omega arith), at 14 (λ e. omega arith), at 15 (λ e. omega arith)) refl
+
+  payload-same : (k : PayloadType) → evenPayload (payloadFrom other rssi snr k) ≡ evenPayload (payloadFrom ns rssi snr k)
+  payload-same type.Uplink = rw (at 5 (λ e. omega arith), at 6 (λ e. omega arith), at 7 (λ e. omega arith), at 8 (λ e. omega arith), run-same) refl
+  payload-same type.Downlink =
+      rw (at 5 (λ e. omega arith), at 6 (λ e. omega arith), at 7 (λ e. omega arith), at 9 (λ e. omega arith), at 10 (λ e. omega arith), at 11 (λ e. omega arith), run-same) refl
+  payload-same type.Event = rw (at 5 (λ e. omega arith), at 12 (λ e. omega arith), content-same) refl
+  payload-same type.Command = rw (at 5 (λ e. omega arith), at 12 (λ e. omega arith), content-same) refl
+
+  abbrev sent : PacketRead → Writing
+  sent = ifPacket (packetFrame l) refused
+
+  abbrev made : List ℕ → PayloadType → PayloadType → MeshPacket
+  made ms k t = record {
+    mhdr = record { «payload_type» = t; «hop_count» = atMost 255 (getD ms 2 0) };
+    payload = payloadFrom ms rssi snr k;
+    «has_mic» = not (eqb (getD ms 3 0) 0);
+    mic = atMost 4294967295 (getD ms 4 0);
+  }
+
+  made-same : (k t : PayloadType) → evenMesh (made other k t) ≡ evenMesh (made ns k t)
+  made-same k t = rw (at 2 (λ e. omega arith), at 3 (λ e. omega arith), at 4 (λ e. omega arith), payload-same k) refl
+
+  typed-same : (k : PayloadType) (t : TypeRead) → sent (ofMesh (typedBy other rssi snr k t)) ≡ sent (ofMesh (typedBy ns rssi snr k t))
+  unfolding packetFrame
+  typed-same k (NoKind i) = refl
+  typed-same k (Kind t) = sym (even-written l (made other k t)) ∙ ap (meshFrame l) (made-same k t) ∙ even-written l (made ns k t)
+
+  kind-same : (t : TypeRead) → sent (ofMesh (kindBy other rssi snr t)) ≡ sent (ofMesh (kindBy ns rssi snr t))
+  kind-same (NoKind i) = refl
+  kind-same (Kind k) =
+      ap (λ (i : ℕ). sent (ofMesh (typedBy other rssi snr k (typeRead i)))) (at 1 (λ e. omega arith)) ∙ typed-same k (typeRead (getD ns 1 0))
+
+  mesh-same : sent (ofMesh (meshFrom other rssi snr)) ≡ sent (ofMesh (meshFrom ns rssi snr))
+  unfolding meshFrom
+  mesh-same = rw (wide-same, strange-same, at 0 (λ e. omega arith)) (by (tooWide ns) (strangeContent ns))
+    where
+      by : (a b : Bool)
+          → sent (ofMesh (pick a (NoMesh typeLarge) (pick b (NoMesh typeLarge) (kindBy other rssi snr (typeRead (getD ns 0 0))))))
+          ≡ sent (ofMesh (pick a (NoMesh typeLarge) (pick b (NoMesh typeLarge) (kindBy ns rssi snr (typeRead (getD ns 0 0))))))
+      by true b = refl
+      by false true = refl
+      by false false = kind-same (typeRead (getD ns 0 0))
+
+  pub any-odd-bits-are-taken : numbersFrame l (set ns 16 n) rssi snr ≡ numbersFrame l ns rssi snr
+  unfolding numbersFrame packetFrom packetFrame
+  any-odd-bits-are-taken = rw (wide-same, at 0 (λ e. omega arith), run-same) (by (tooWide ns) (eqb (getD ns 0 0) 4))
+    where
+      by : (a b : Bool)
+          → sent (pick a (packet.Refused typeLarge) (pick b (packet.Packet (Lora (runFrom ns))) (ofMesh (meshFrom other rssi snr))))
+          ≡ sent (pick a (packet.Refused typeLarge) (pick b (packet.Packet (Lora (runFrom ns))) (ofMesh (meshFrom ns rssi snr))))
+      by true b = refl
+      by false true = refl
+      by false false = mesh-same

@@ -45,7 +45,7 @@ use Rattle.fields.proofs.Laws.Path.{path-back, path-again, path-same, path-even
 use Rattle.heartbeats.specs.Heartbeat.{sixAt, entryAt, pathsOf, beatRefusal, entryRefusal, beatOf, entryRead, beatWire, beatSays, pathSays, noPath, FourByteIds}
 use Rattle.heartbeats.specs.declared.heartbeat.HeartbeatPayload.{HeartbeatPayload}
 use Rattle.heartbeats.specs.declared.heartbeat.PathRead.the-variants.{Entry, Refused as NoEntry}
-use Rattle.heartbeats.proofs.Laws.{refused-entries, taken-entries, beat-back}
+use Rattle.heartbeats.proofs.Laws.{refused-entries, taken-entries, beat-back, even-beat}
 use Rattle.items.specs.Items.{isBeat, badBeat, openingOf, kindOf, pathKind, itemAt, Turn, walkedTo, keptItem, noItem, itemSays, listedItems}
 use Rattle.items.specs.declared.count.Opening.{Opening}
 use Rattle.items.specs.declared.item.Item.{Item}
@@ -62,11 +62,12 @@ use Rattle.contents.specs.Content.{Lent, framed, contentWire}
 use Rattle.contents.specs.declared.content.Content.{Content}
 use Rattle.contents.specs.declared.content.Content.the-variants.{Sealed}
 use Rattle.links.specs.declared.uplink.UplinkPayload.{UplinkPayload}
-use Rattle.packets.specs.Read.{meshOf, meshSays, evenMesh}
-use Rattle.packets.specs.Write.{meshFrame}
+use Rattle.packets.specs.Read.{meshOf, meshSays, evenPayload, evenMesh}
+use Rattle.packets.specs.Write.{payloadWire, meshFrame}
+use Rattle.packets.specs.declared.mesh.Payload.{Payload}
 use Rattle.packets.specs.declared.mesh.Payload.the-variants.{Uplink}
 use Rattle.packets.specs.declared.mesh.MeshPacket.{MeshPacket}
-use Rattle.round_trips.proofs.Even.{odd-found, even-written}
+use Rattle.round_trips.proofs.Even.{odd-found, even-body, even-written}
 use Rattle.sealing.specs.Open.{sealWire, decryptOf, workAfter, decodeOf, told, openedSays}
 use Rattle.sealing.proofs.Clean.{decrypted-clean, decoded-clean}
 use Rattle.round_trips.specs.Which.{leastFrame, meshNumber}
@@ -314,9 +315,10 @@ pub path-entry-same-exactly-if-even : (b : List ℕ) → length b ≡ 6 → Byte
 path-entry-same-exactly-if-even = path-same
 
 pub odd-bits-are-not-written : ((m : UplinkMetadata) → upWire (even m) ≡ upWire m) × ((p : RelayPath) → pathWire (evenEntry p) ≡ pathWire p)
+    × ((ps : List RelayPath) → beatWire (map evenEntry ps) ≡ beatWire ps) × ((l : Lent) (q : Payload) → payloadWire l (evenPayload q) ≡ payloadWire l q)
     × ((l : Lent) (p : MeshPacket) → meshFrame l (evenMesh p) ≡ meshFrame l p)
 unfolding upWire pathWire
-odd-bits-are-not-written = (λ m. refl, λ p. refl, even-written)
+odd-bits-are-not-written = (λ m. refl, λ p. refl, even-beat, even-body, even-written)
 
 -- an uplink has those of byte 4 of its frame, and entry i of a heartbeat's value those of its last byte
 pub uplink-odd-bits-as-found : (s : List ℕ) (p : MeshPacket) (u : UplinkPayload) → Bytes s → meshSays (meshOf s) ≡ value p → p .payload ≡ Uplink u

@@ -27,7 +27,7 @@ use Rattle.fields.specs.declared.freq.StepsRead.{StepsRead}
 use Rattle.links.specs.Write.{followed, headedBy, limitedOf, withMic, downlinkHead, downlinkWire}
 use Rattle.links.specs.declared.downlink.DownlinkPayload.{DownlinkPayload}
 use Rattle.events.specs.Write.{stamp, stampedWire, eventWire, commandWire}
-use Rattle.packets.specs.Read.{meshSays}
+use Rattle.packets.specs.Read.{meshSays, evenMesh}
 use Rattle.packets.specs.Write.{payloadWire, payloadKinds, kindsIn, behind, messageOf, meshFrame}
 use Rattle.packets.proofs.Laws.{message-strange, strange-29}
 use Rattle.packets.specs.declared.mesh.Payload.{Payload}
@@ -37,6 +37,7 @@ use Rattle.packets.specs.declared.mesh.MeshRead.the-variants.{Mesh}
 use Rattle.sealing.specs.Seal.{contentSeal, eventSeal, eventSealed, commandSeal, commandSealed}
 use Rattle.sealing.specs.Mesh.{ofEventSealed, ofCommandSealed, meshSealed}
 use Rattle.mic.specs.declared.Validated.the-variants.{Valid, Invalid, Refused as NotValidated}
+use Rattle.round_trips.proofs.Even.{even-kinds, even-message}
 use Rattle.promises.proofs.Said.{byte-said, steps-refused, mesh-said}
 use Rattle.mic.specs.Mic.{micOf, fitting, signedOf, carryingMic, signedBy, setMic, comparedBy, validateMic, validSays}
 
@@ -209,3 +210,21 @@ module _ (E : List ℕ → List ℕ) (l : Lent) (p : MeshPacket) where
   pub valid-exactly-with-its-mic : (q : MeshPacket) → meshSays (setMic E l p) ≡ value q → (m : ℕ) → validSays (validateMic E l (carryingMic p m)) ≡ value (eqb m (q .mic))
   unfolding setMic signedOf
   valid-exactly-with-its-mic q e m = valid-by m (fitting (messageOf l p)) refl q (mesh-said (setMic E l p) q e) m
+
+-- 5.18: signing and validating do not look at odd bits
+module _ (E : List ℕ → List ℕ) (l : Lent) (p : MeshPacket) where
+  even-signed : signedOf l (evenMesh p) ≡ signedOf l p
+  unfolding signedOf
+  even-signed = ap fitting (even-message l p)
+
+  pub odd-bits-are-not-signed : (q : MeshPacket) → meshSays (setMic E l p) ≡ value q → meshSays (setMic E l (evenMesh p)) ≡ value (evenMesh q)
+  unfolding setMic
+  odd-bits-are-not-signed q e = ap (λ (w : Writing). meshSays (signedBy E (evenMesh p) w)) even-signed ∙ by (signedOf l p) e
+    where
+      by : (w : Writing) → meshSays (signedBy E p w) ≡ value q → meshSays (signedBy E (evenMesh p) w) ≡ value (evenMesh q)
+      by (refused n) h = let z : _≡_ {A = ℕ} 0 1 = cc in absurd (omega arith)
+      by (bytes w) h = let y : carryingMic p (micOf E w) ≡ q = cc in rw (← y) refl
+
+  pub odd-bits-are-not-validated : validSays (validateMic E l (evenMesh p)) ≡ validSays (validateMic E l p)
+  unfolding validateMic
+  odd-bits-are-not-validated = rw (even-kinds l p, even-signed) refl

@@ -3,16 +3,16 @@
 use Prim.Native.Nat.{ℕ, _+_, _-_, _/_, _%_, _≤_, _<_}
 use native.Mathlib.Omega.{arith}
 use mathlib.Core.Bool.{Bool, true}
-use mathlib.Core.Path.{_≡_, refl, sym, ap, _∙_}
+use mathlib.Core.Path.{_≡_, refl, sym, ap, ap₂, _∙_}
 use mathlib.Core.List.{List, [], _∷_, _++_}
 use lib.ListN.{length, getD, drop}
 use borrow.Author.Tests.{eq-eqb, ne-eqb}
 use Rattle.base.specs.Lists.{Bytes}
-use Rattle.base.specs.Answers.{bytes}
+use Rattle.base.specs.Answers.{Writing, bytes, unlessRefused}
 use Rattle.wire.specs.Number.{beBytes}
 use Rattle.wire.proofs.Laws.Number.{be-lt}
 use Rattle.fields.specs.Signal.{snrOf, evenAt}
-use Rattle.fields.specs.Header.{codeOf}
+use Rattle.fields.specs.Header.{codeOf, headerByte}
 use Rattle.fields.specs.declared.header.PayloadType.{PayloadType}
 use Rattle.fields.specs.declared.header.PayloadType.the-variants.{Uplink, Downlink, Event, Command}
 use Rattle.fields.specs.declared.meta.UplinkMetadata.{UplinkMetadata}
@@ -23,7 +23,7 @@ use Rattle.composed_items.specs.Composed.{Lists}
 use Rattle.contents.specs.Content.{Lent, framed}
 use Rattle.fields.specs.Meta.{upWire}
 use Rattle.links.specs.Read.{fourAt, uplinkAt, downlinkAt}
-use Rattle.links.specs.Write.{uplinkHead, uplinkWire}
+use Rattle.links.specs.Write.{uplinkHead, uplinkWire, withMic}
 use Rattle.links.specs.declared.uplink.UplinkPayload.{UplinkPayload}
 use Rattle.links.specs.declared.uplink.UplinkRead.{UplinkRead}
 use Rattle.links.specs.declared.uplink.UplinkRead.the-variants.{Payload as UplinkIs, Refused as NoUplink}
@@ -35,8 +35,8 @@ use Rattle.events.specs.declared.stamped.EventRead.{EventRead}
 use Rattle.events.specs.declared.stamped.EventRead.the-variants.{Payload as EventIs, Refused as NoEvent}
 use Rattle.events.specs.declared.stamped.CommandRead.{CommandRead}
 use Rattle.events.specs.declared.stamped.CommandRead.the-variants.{Payload as CommandIs, Refused as NoCommand}
-use Rattle.packets.specs.Read.{bodyIn, ofUplink, ofDownlink, ofEvent, ofCommand, payloadAt, meshOf, carrying, oddIn, evenPayload, evenMesh}
-use Rattle.packets.specs.Write.{payloadWire, payloadKinds, messageOf, meshFrame}
+use Rattle.packets.specs.Read.{bodyIn, ofUplink, ofDownlink, ofEvent, ofCommand, payloadAt, meshOf, oddIn, evenPayload, evenMesh}
+use Rattle.packets.specs.Write.{behind, payloadWire, payloadKinds, kindsIn, messageOf, meshFrame}
 use Rattle.packets.specs.declared.mesh.Payload.{Payload}
 use Rattle.packets.specs.declared.mesh.Payload.the-variants.{Uplink as AnUplink, Downlink as ADownlink, Event as AnEvent, Command as ACommand}
 use Rattle.packets.specs.declared.mesh.PayloadRead.the-variants.{Payload as PayloadIs}
@@ -178,12 +178,29 @@ module _ (s : List ℕ) (p : MeshPacket) (h : Bytes s) (read : meshOf s ≡ Mesh
 
 -- ---- writing looks at them nowhere
 
-pub even-written : (l : Lent) (p : MeshPacket) → meshFrame l (evenMesh p) ≡ meshFrame l p
-unfolding meshFrame messageOf payloadWire uplinkWire uplinkHead upWire payloadKinds
-even-written l p = by (p .payload)
-  where
-    by : (q : Payload) → meshFrame l (carrying p (evenPayload q)) ≡ meshFrame l (carrying p q)
-    by (AnUplink u) = refl
-    by (ADownlink u) = refl
-    by (AnEvent u) = refl
-    by (ACommand u) = refl
+even-by : (kinds spans : List (List ℕ)) (q : Payload) → payloadKinds kinds spans (evenPayload q) ≡ payloadKinds kinds spans q
+unfolding payloadKinds
+even-by kinds spans (AnUplink u) = refl
+even-by kinds spans (ADownlink u) = refl
+even-by kinds spans (AnEvent u) = refl
+even-by kinds spans (ACommand u) = refl
+
+module _ (l : Lent) where
+  pub even-kinds : (p : MeshPacket) → kindsIn l (evenMesh p) ≡ kindsIn l p
+  even-kinds p = even-by _ _ (p .payload)
+
+  pub even-body : (q : Payload) → payloadWire l (evenPayload q) ≡ payloadWire l q
+  unfolding payloadWire uplinkWire uplinkHead upWire
+  even-body (AnUplink u) = refl
+  even-body (ADownlink u) = refl
+  even-body (AnEvent u) = refl
+  even-body (ACommand u) = refl
+
+  pub even-message : (p : MeshPacket) → messageOf l (evenMesh p) ≡ messageOf l p
+  unfolding messageOf
+  even-message p =
+      ap₂ (λ (k : ℕ) (w : Writing). unlessRefused k (behind (headerByte (p .mhdr)) w)) (even-kinds p) (even-body (p .payload))
+
+  pub even-written : (p : MeshPacket) → meshFrame l (evenMesh p) ≡ meshFrame l p
+  unfolding meshFrame
+  even-written p = ap (withMic (p .«has_mic») (p .mic)) (even-message p)

@@ -3,12 +3,12 @@
 use Prim.Native.Nat.{ℕ, _+_, _-_, _/_, _%_, _≤_, _<_}
 use native.Mathlib.Omega.{arith}
 use mathlib.Core.Path.{_≡_, refl, sym, ap, _∙_}
-use mathlib.Core.Bool.{Bool, true, false, not}
+use mathlib.Core.Bool.{Bool, true, false, not, false≢true}
 use mathlib.Core.List.{List, [], _∷_, _++_, append-nil}
-use lib.Dec.{ltb, eqb}
+use lib.Dec.{ltb, leb, eqb}
 use lib.ListN.{length, take, drop, replicate, getD, length-append, length-replicate}
 use lib.Seq.{take-append-seam}
-use borrow.Author.Tests.{lt-ltb, le-ltb, ltb-false, eq-eqb, ne-eqb, eqb-true, eqb-false}
+use borrow.Author.Tests.{lt-ltb, le-ltb, ltb-false, lt-leb, leb-true, eq-eqb, ne-eqb, eqb-true, eqb-false}
 use Rattle.base.specs.Pick.{pick}
 use Rattle.base.specs.Lists.{Bytes}
 use Rattle.base.specs.Numbers.{frameEmpty, frameShort, frameLong, notMesh, frameMost}
@@ -41,7 +41,7 @@ use Rattle.packets.specs.declared.any.PacketRead.the-variants.{Packet as Packet
 use Rattle.wire.specs.declared.run.Run.{Run}
 use Rattle.dump.proofs.Laws.Decimal.{decimal-most, decimal-byte}
 use Rattle.dump.specs.Ascii.{ascii}
-use Rattle.dump.specs.Dump.{decimal, fourText, labelOf, oddText, lineOf, micText, payloadText, meshText, withNumber, refusedText, readText, frameText, badHex, lineText}
+use Rattle.dump.specs.Dump.{decimal, fourText, labelOf, isTold, oddText, lineOf, micText, payloadText, meshText, withNumber, refusedText, readText, frameText, badHex, lineText}
 
 -- ---- parts laid one behind the other
 
@@ -83,19 +83,25 @@ four-length : (n : ℕ) → 8 ≡ length (fourText n)
 unfolding beBytes
 four-length n = sym (hex-length (beBytes 4 n))
 
--- odd bits: none, more than two, and what they are
+-- odd bits that are told, and others
 module _ (n : ℕ) where
-  pub odd-none : n ≡ 0 → oddText n ≡ []
+  pub told-most : isTold n ≡ true → n ≤ 3
+  told-most e = by (eqb n 0) e
+    where
+      by : (t : Bool) → pick t false (leb n 3) ≡ true → n ≤ 3
+      by true q = absurd (false≢true q)
+      by false q = leb-true n 3 q
+
+  pub odd-told : isTold n ≡ true → oddText n ≡ ascii " odd: " ++ ((48 + n) ∷ [])
   unfolding oddText
-  odd-none e = simp (le-ltb 0 n (omega arith))
+  odd-told e = simp e
+
+  pub odd-untold : isTold n ≡ false → oddText n ≡ []
+  unfolding oddText
+  odd-untold e = simp e
 
   pub odd-large : 3 < n → oddText n ≡ []
-  unfolding oddText
-  odd-large l = simp (lt-ltb 0 n (omega arith), lt-ltb 3 n l)
-
-  pub odd-is : (n ≡ 0 → ⊥) → n ≤ 3 → oddText n ≡ ascii " odd: " ++ ((48 + n) ∷ [])
-  unfolding oddText
-  odd-is h l = simp (lt-ltb 0 n (omega arith), le-ltb 3 n l)
+  odd-large l = odd-untold (simp (ne-eqb n 0 (λ z. omega arith), lt-leb n 3 l))
 
 module _ (t : PayloadType) (hops : ℕ) (word : List ℕ) (n relay : ℕ) (tail : List ℕ) (odd : ℕ) (o : List ℕ) (a j k i : ℕ)
     (ea : a ≡ length (labelOf t)) (ej : j ≡ length (decimal hops)) (ek : k ≡ length (decimal n)) (ei : i ≡ length (oddText odd)) where
@@ -155,7 +161,7 @@ line-odd : (t : PayloadType) (hops : ℕ) (word : List ℕ) (n relay : ℕ) (tai
 unfolding lineOf
 line-odd t hops word n relay tail odd =
     let front = labelOf t ++ decimal hops ++ word ++ decimal n ++ ascii ", relay_id: " ++ fourText relay ++ tail in
-    (front, ap (λ (x : List ℕ). front ++ x ++ ascii "]") (odd-none 0 refl) ∙ ap (λ (x : List ℕ). x ++ ascii "]") (append-nil front), refl)
+    (front, ap (λ (x : List ℕ). front ++ x ++ ascii "]") (odd-untold 0 refl) ∙ ap (λ (x : List ℕ). x ++ ascii "]") (append-nil front), refl)
 
 payload-odd : (t : PayloadType) (hops : ℕ) (has : Bool) (mic : ℕ) (q : Payload)
     → OddInside (payloadText t hops has mic (evenPayload q)) (payloadText t hops has mic q) (oddIn q)
@@ -205,12 +211,11 @@ label-most Command = omega arith
 
 odd-most : (odd : ℕ) → length (oddText odd) ≤ 7
 unfolding oddText
-odd-most odd = by (ltb 0 odd) (ltb 3 odd)
+odd-most odd = by (isTold odd)
   where
-    by : (s t : Bool) → length (pick s (pick t [] (ascii " odd: " ++ ((48 + odd) ∷ []))) []) ≤ 7
-    by false t = omega arith
-    by true true = omega arith
-    by true false = omega arith
+    by : (t : Bool) → length (pick t (ascii " odd: " ++ ((48 + odd) ∷ [])) []) ≤ 7
+    by true = omega arith
+    by false = omega arith
 
 line-most : (t : PayloadType) (hops : ℕ) (word : List ℕ) (n relay : ℕ) (tail : List ℕ) (odd : ℕ) → hops ≤ 255 → length word ≤ 13 → length tail ≤ 15
     → length (lineOf t hops word n relay tail odd) ≤ 90
