@@ -5,10 +5,11 @@
 #include "mesh.h"
 #include "side.h"
 
-enum { MOST = 8192 };
+/* ALONE: a byte that readers load alone. To load it with others the next call would wait until it is stored. */
+enum { MOST = 8192, ALONE = 5 };
 
-/* All that the calls are given and leave. */
-static struct {
+/* All that the calls are given and leave, on both sides at the same place of a cache line. */
+static _Alignas(64) struct {
     uint8_t key[16], block[16], tag[16], frame[MOST], downlink[MOST], event[MOST], message[MOST], work[MOST], out[MOST];
     struct { uint8_t clear[MOST], sealed[MOST]; mesh_packet decoded; } beats[3];
     uint32_t words[MESH_CIPHER_WORDS];
@@ -145,7 +146,7 @@ static void edited(size_t n)
 static void read(void)
 {
     refusals += mesh_packet_read(&the.packet, the.frame, 64);
-    the.frame[63]++;
+    the.frame[ALONE]++;
 }
 
 static void wrote(uint8_t *frame)
@@ -153,11 +154,17 @@ static void wrote(uint8_t *frame)
     mesh_lent lent = mesh_lent_frame(frame, 64);
     refusals += mesh_packet_read(&the.packet, frame, 64);
     refusals += mesh_packet_write(&the.packet, &lent, the.work, MOST, &the.length);
-    frame[63]++;
+    frame[ALONE]++;
 }
 
 static void wrote_uplink(void) { wrote(the.frame); }
 static void wrote_downlink(void) { wrote(the.downlink); }
+
+static void dumped(void)
+{
+    refusals += mesh_dump_frame(the.frame, 64, the.out, MOST, &the.length);
+    the.frame[ALONE]++;
+}
 
 static void frequency(void)
 {
@@ -210,6 +217,7 @@ static const struct call calls[] = {
     {"an uplink of 64 bytes read (mesh_read)", read, 5000, true},
     {"read and written (mesh_write)", wrote_uplink, 3000, true},
     {"a downlink of 64 bytes read and written", wrote_downlink, 3000, true},
+    {"the line of an uplink (mesh_dump_frame)", dumped, 1000, true},
     {"a frequency written (mesh_frequency_write)", frequency, 5000, false},
 };
 
