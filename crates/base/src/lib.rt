@@ -3,7 +3,7 @@
 ghost use Rattle.std.specs.Prelude.{◌≡◌, min};
 
 // The refusal numbers, section 3 of docs/RULES.md. A refusal is passed up unchanged.
-#[derive(Drop)]
+#[derive(Clone, Copy)]
 pub struct Refusal;
 
 impl Refusal {
@@ -73,7 +73,7 @@ impl Refusal {
 }
 
 // The limits of the domain, in bytes, entries and records.
-#[derive(Drop)]
+#[derive(Clone, Copy)]
 pub struct Limit;
 
 impl Limit {
@@ -95,14 +95,14 @@ impl Limit {
 }
 
 // What a writer into a lent buffer answers: how many bytes it wrote, or the refusal's number.
-#[derive(Drop)]
+#[derive(Clone, Copy)]
 pub enum Written {
     Bytes(usize),
     Refused(u8),
 }
 
 // What a call answers that accepts or refuses, where the value, if any, stands beside the answer.
-#[derive(Drop)]
+#[derive(Clone, Copy)]
 pub enum Checked {
     Accepted,
     Refused(u8),

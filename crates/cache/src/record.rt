@@ -5,7 +5,7 @@ ghost use Rattle.cache.specs.Cache.{rec, record_of, same_record, type_by_code, p
 use fields::PayloadType;
 use packets::{MeshPacket, Payload};
 
-#[derive(Drop)]
+#[derive(Clone, Copy)]
 pub struct PayloadCache {
     pub p_type: PayloadType,
     pub uplink_id: u16,

@@ -7,7 +7,7 @@ use crate::record::PayloadCache;
 use base::{Checked, Limit, Refusal, least};
 use fields::PayloadType;
 
-#[derive(Drop)]
+#[derive(Clone, Copy)]
 pub struct Cache {
     slots: [PayloadCache; Limit::CACHE],
     size: usize,
@@ -16,20 +16,20 @@ pub struct Cache {
 }
 
 // What a new cache answers; where its size is refused, a cache of size 0 stands beside it.
-#[derive(Drop)]
+#[derive(Clone, Copy)]
 pub struct CacheNew {
     pub answer: Checked,
     pub cache: Cache,
 }
 
-#[derive(Drop)]
+#[derive(Clone, Copy)]
 pub enum CacheAnswer {
     New,
     Seen,
     Refused(u8),
 }
 
-#[derive(Drop)]
+#[derive(Clone, Copy)]
 pub struct Added {
     pub answer: CacheAnswer,
     pub cache: Cache,

@@ -58,7 +58,7 @@ pub const WORDS: usize = 260;
 // A cipher made ready for one key. What is laid out in it is known to this crate alone, and its length by its name.
 pub type Cipher = [u32; WORDS];
 
-#[derive(Drop)]
+#[derive(Clone, Copy)]
 struct Cols {
     a: u32,
     b: u32,

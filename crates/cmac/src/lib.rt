@@ -27,7 +27,7 @@ pub fn subkey2(e: &Cipher) -> [u8; 16]
 }
 
 // A state, and the index of the next byte to absorb.
-#[derive(Drop)]
+#[derive(Clone, Copy)]
 struct Went {
     mac: Mac,
     next: usize,

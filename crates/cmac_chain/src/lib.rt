@@ -50,7 +50,7 @@ pub fn add(x: [u8; 16], s: &[u8]) -> [u8; 16]
 
 // A tag that is being made: the chain's block with the bytes of the block in hand added to it, and their count. Any value is one: a count
 // over 16 is taken as a full block.
-#[derive(Drop)]
+#[derive(Clone, Copy)]
 pub struct Mac {
     pub x: [u8; 16],
     pub count: usize,

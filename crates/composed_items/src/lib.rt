@@ -23,7 +23,7 @@ pub use one::{encode_command, encode_event, write_item};
 use wire::{Run, put_all};
 
 // One item, as it stands in the lists, with the tag that it is written with.
-#[derive(Drop)]
+#[derive(Clone, Copy)]
 pub struct Composed {
     pub kind: u8,
     pub tag: u8,
@@ -32,7 +32,7 @@ pub struct Composed {
 }
 
 // A sum, unless it is over what it may be at most.
-#[derive(Drop)]
+#[derive(Clone, Copy)]
 enum Total {
     Sum(usize),
     Over,

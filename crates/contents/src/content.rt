@@ -7,13 +7,13 @@ use items::Item;
 use wire::Run;
 
 // Which of the two lent slices.
-#[derive(Drop)]
+#[derive(Clone, Copy)]
 pub enum Held {
     Frame,
     Work,
 }
 
-#[derive(Drop)]
+#[derive(Clone, Copy)]
 pub enum Content {
     Empty,
     // It lies in the frame.

@@ -7,7 +7,7 @@ ghost use Rattle.dump.specs.inner.Digits.{digits_of};
 use wire::{part, put_all};
 
 // The digits stand at the end of the array, from `start` on: they are found from the last to the first, and no u32 has more than ten.
-#[derive(Drop)]
+#[derive(Clone, Copy)]
 struct Digits {
     bytes: [u8; 10],
     start: usize,

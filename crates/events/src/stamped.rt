@@ -10,41 +10,41 @@ use base::{Limit, Refusal, Written};
 use contents::Content;
 use wire::{be32_bytes, be32_of, put_all};
 
-#[derive(Drop)]
+#[derive(Clone, Copy)]
 pub struct EventPayload {
     pub timestamp: u32,
     pub relay_id: u32,
     pub events: Content,
 }
 
-#[derive(Drop)]
+#[derive(Clone, Copy)]
 pub enum EventRead {
     Payload(EventPayload),
     Refused(u8),
 }
 
-#[derive(Drop)]
+#[derive(Clone, Copy)]
 pub struct CommandPayload {
     pub timestamp: u32,
     pub relay_id: u32,
     pub commands: Content,
 }
 
-#[derive(Drop)]
+#[derive(Clone, Copy)]
 pub enum CommandRead {
     Payload(CommandPayload),
     Refused(u8),
 }
 
 // What the two have in common.
-#[derive(Drop)]
+#[derive(Clone, Copy)]
 struct Stamped {
     timestamp: u32,
     relay_id: u32,
     content: Content,
 }
 
-#[derive(Drop)]
+#[derive(Clone, Copy)]
 enum StampedRead {
     Stamped(Stamped),
     Refused(u8),

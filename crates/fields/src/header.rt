@@ -4,7 +4,7 @@ ghost use Rattle.fields.specs.Header.{type_read, code_of, type_least, type_most,
 
 use base::Refusal;
 
-#[derive(Drop)]
+#[derive(Clone, Copy)]
 pub enum PayloadType {
     Uplink,
     Downlink,
@@ -12,7 +12,7 @@ pub enum PayloadType {
     Command,
 }
 
-#[derive(Drop)]
+#[derive(Clone, Copy)]
 pub enum TypeRead {
     Kind(PayloadType),
     Refused(u8),
@@ -61,7 +61,7 @@ impl PayloadType {
     }
 }
 
-#[derive(Drop)]
+#[derive(Clone, Copy)]
 pub struct HopCount;
 
 impl HopCount {
@@ -70,19 +70,19 @@ impl HopCount {
     pub const MOST: u8 = 8;
 }
 
-#[derive(Drop)]
+#[derive(Clone, Copy)]
 pub struct MHDR {
     pub payload_type: PayloadType,
     pub hop_count: u8,
 }
 
-#[derive(Drop)]
+#[derive(Clone, Copy)]
 pub enum HeaderRead {
     Header(MHDR),
     Refused(u8),
 }
 
-#[derive(Drop)]
+#[derive(Clone, Copy)]
 pub enum HeaderByte {
     Byte(u8),
     Refused(u8),

@@ -8,7 +8,7 @@ use crate::freq::{StepsRead, hertz, steps};
 use crate::signal::{SignalByte, rssi_byte, rssi_of, snr_byte, snr_of};
 use base::{Checked, Refusal};
 
-#[derive(Drop)]
+#[derive(Clone, Copy)]
 pub struct UplinkId;
 
 impl UplinkId {
@@ -23,7 +23,7 @@ impl UplinkId {
     }
 }
 
-#[derive(Drop)]
+#[derive(Clone, Copy)]
 pub struct Dr;
 
 impl Dr {
@@ -38,7 +38,7 @@ impl Dr {
     }
 }
 
-#[derive(Drop)]
+#[derive(Clone, Copy)]
 pub struct Channel;
 
 impl Channel {
@@ -53,7 +53,7 @@ impl Channel {
     }
 }
 
-#[derive(Drop)]
+#[derive(Clone, Copy)]
 pub struct TxPower;
 
 impl TxPower {
@@ -68,7 +68,7 @@ impl TxPower {
     }
 }
 
-#[derive(Drop)]
+#[derive(Clone, Copy)]
 pub struct Delay;
 
 impl Delay {
@@ -77,7 +77,7 @@ impl Delay {
     pub const MOST: u8 = 16;
 }
 
-#[derive(Drop)]
+#[derive(Clone, Copy)]
 pub struct UplinkMetadata {
     pub uplink_id: u16,
     pub dr: u8,
@@ -87,13 +87,13 @@ pub struct UplinkMetadata {
     pub odd: u8,
 }
 
-#[derive(Drop)]
+#[derive(Clone, Copy)]
 pub struct UplinkBytes {
     pub answer: Checked,
     pub bytes: [u8; UplinkMetadata::LENGTH],
 }
 
-#[derive(Drop)]
+#[derive(Clone, Copy)]
 pub struct DownlinkMetadata {
     pub uplink_id: u16,
     pub dr: u8,
@@ -102,7 +102,7 @@ pub struct DownlinkMetadata {
     pub delay: u8,
 }
 
-#[derive(Drop)]
+#[derive(Clone, Copy)]
 pub struct DownlinkBytes {
     pub answer: Checked,
     pub bytes: [u8; DownlinkMetadata::LENGTH],

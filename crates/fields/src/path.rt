@@ -8,7 +8,7 @@ use crate::signal::{SignalByte, rssi_byte, rssi_of, snr_byte, snr_of};
 use base::{Checked, Limit};
 use wire::{be32_bytes, be32_of};
 
-#[derive(Drop)]
+#[derive(Clone, Copy)]
 pub struct RelayPath {
     pub relay_id: u32,
     pub rssi: i16,
@@ -16,7 +16,7 @@ pub struct RelayPath {
     pub odd: u8,
 }
 
-#[derive(Drop)]
+#[derive(Clone, Copy)]
 pub struct PathBytes {
     pub answer: Checked,
     pub bytes: [u8; RelayPath::LENGTH],

@@ -6,7 +6,7 @@ ghost use Rattle.fields.specs.Signal.{rssi_of, snr_of, rssi_byte, snr_byte};
 
 use base::Refusal;
 
-#[derive(Drop)]
+#[derive(Clone, Copy)]
 pub struct Rssi;
 
 impl Rssi {
@@ -15,7 +15,7 @@ impl Rssi {
     pub const MOST: i16 = 0;
 }
 
-#[derive(Drop)]
+#[derive(Clone, Copy)]
 pub struct Snr;
 
 impl Snr {
@@ -24,7 +24,7 @@ impl Snr {
     pub const MOST: i8 = 31;
 }
 
-#[derive(Drop)]
+#[derive(Clone, Copy)]
 pub struct Odd;
 
 impl Odd {
@@ -40,13 +40,13 @@ impl Odd {
 }
 
 // What an snr byte is read as: the number, and the two bits above it as found. They are no part of the number, and are written as 0.
-#[derive(Drop)]
+#[derive(Clone, Copy)]
 pub struct SnrRead {
     pub snr: i8,
     pub odd: u8,
 }
 
-#[derive(Drop)]
+#[derive(Clone, Copy)]
 pub enum SignalByte {
     Byte(u8),
     Refused(u8),

@@ -2,7 +2,7 @@
 ghost use Rattle.std.specs.Prelude.{◌≡◌, [], ◌∷◌};
 ghost use Rattle.fields.specs.Limits.{relay_id_least, relay_id_most, timestamp_least, timestamp_most, mic_least, mic_most};
 
-#[derive(Drop)]
+#[derive(Clone, Copy)]
 pub struct RelayId;
 
 impl RelayId {
@@ -18,7 +18,7 @@ impl RelayId {
 }
 
 // Seconds.
-#[derive(Drop)]
+#[derive(Clone, Copy)]
 pub struct Timestamp;
 
 impl Timestamp {
@@ -33,7 +33,7 @@ impl Timestamp {
     }
 }
 
-#[derive(Drop)]
+#[derive(Clone, Copy)]
 pub struct Mic;
 
 impl Mic {

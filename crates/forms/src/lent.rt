@@ -11,7 +11,7 @@ use fields::RelayPath;
 use heartbeats::{HeartbeatPayload, HeartbeatRead};
 
 // What reading a heartbeat's value answers, and the list after it.
-#[derive(Drop)]
+#[derive(Clone, Copy)]
 pub struct ListRead {
     pub answer: HeartbeatRead,
     pub list: [RelayPath; 3],

@@ -12,18 +12,18 @@ use base::{Checked, Limit, Refusal, Written};
 use fields::RelayPath;
 
 // How many entries its path has. They lie in a lent list.
-#[derive(Drop)]
+#[derive(Clone, Copy)]
 pub struct HeartbeatPayload {
     pub entries: usize,
 }
 
-#[derive(Drop)]
+#[derive(Clone, Copy)]
 pub enum HeartbeatRead {
     Heartbeat(HeartbeatPayload),
     Refused(u8),
 }
 
-#[derive(Drop)]
+#[derive(Clone, Copy)]
 pub enum PathRead {
     Entry(RelayPath),
     Refused(u8),

@@ -7,7 +7,7 @@ use crate::item::{Command, Event, ItemRead, is_beat, next_item};
 use base::{Limit, Refusal};
 use fields::RelayPath;
 
-#[derive(Drop)]
+#[derive(Clone, Copy)]
 pub struct Opening {
     pub kept: usize,
     pub skipped: usize,
@@ -18,7 +18,7 @@ pub struct Opening {
     pub clean: bool,
 }
 
-#[derive(Drop)]
+#[derive(Clone, Copy)]
 pub enum OpeningRead {
     Opening(Opening),
     Refused(u8),

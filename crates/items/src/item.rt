@@ -7,7 +7,7 @@ use base::{Limit, Refusal, wide};
 use wire::Run;
 
 // The Rust's Event and Command are each one of these with a Vec inside.
-#[derive(Drop)]
+#[derive(Clone, Copy)]
 pub enum ItemKind {
     Encrypted,
     Heartbeat,
@@ -15,7 +15,7 @@ pub enum ItemKind {
 }
 
 // An item as numbers; its value lies in the payload.
-#[derive(Drop)]
+#[derive(Clone, Copy)]
 pub struct Item {
     pub kind: ItemKind,
     pub tag: u8,
@@ -23,7 +23,7 @@ pub struct Item {
 }
 
 // What stands at a place, and the place behind it: whoever goes on from there comes to the end.
-#[derive(Drop)]
+#[derive(Clone, Copy)]
 pub enum ItemRead {
     Kept { item: Item, next: usize },
     // A heartbeat whose length is no multiple of 6.
@@ -34,10 +34,10 @@ pub enum ItemRead {
     Refused(u8),
 }
 
-#[derive(Drop)]
+#[derive(Clone, Copy)]
 pub struct Event;
 
-#[derive(Drop)]
+#[derive(Clone, Copy)]
 pub struct Command;
 
 // A heartbeat: tag 0 of an event.

@@ -7,11 +7,11 @@ ghost use Rattle.keys.specs.Key.{key_of, null_key, key_read, key_refused, key_fr
 use base::{Checked, Refusal, Written};
 use wire::{emit, is_hex, put_all, read_hex, write_hex};
 
-#[derive(Drop)]
+#[derive(Clone, Copy)]
 pub struct Aes128Key([u8; Aes128Key::LENGTH]);
 
 // A key that was read, or the refusal, with the null key beside it.
-#[derive(Drop)]
+#[derive(Clone, Copy)]
 pub struct KeyRead {
     pub answer: Checked,
     pub key: Aes128Key,

@@ -9,20 +9,20 @@ use base::{Checked, Limit, Refusal, Written};
 use fields::DownlinkMetadata;
 use wire::{Run, be32_bytes, be32_of};
 
-#[derive(Drop)]
+#[derive(Clone, Copy)]
 pub struct DownlinkPayload {
     pub metadata: DownlinkMetadata,
     pub relay_id: u32,
     pub phy_payload: Run,
 }
 
-#[derive(Drop)]
+#[derive(Clone, Copy)]
 pub enum DownlinkRead {
     Payload(DownlinkPayload),
     Refused(u8),
 }
 
-#[derive(Drop)]
+#[derive(Clone, Copy)]
 pub struct DownlinkHead {
     pub answer: Checked,
     pub bytes: [u8; 10],

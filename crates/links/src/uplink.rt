@@ -9,20 +9,20 @@ use base::{Checked, Limit, Refusal, Written};
 use fields::UplinkMetadata;
 use wire::{Run, be32_bytes, be32_of};
 
-#[derive(Drop)]
+#[derive(Clone, Copy)]
 pub struct UplinkPayload {
     pub metadata: UplinkMetadata,
     pub relay_id: u32,
     pub phy_payload: Run,
 }
 
-#[derive(Drop)]
+#[derive(Clone, Copy)]
 pub enum UplinkRead {
     Payload(UplinkPayload),
     Refused(u8),
 }
 
-#[derive(Drop)]
+#[derive(Clone, Copy)]
 pub struct UplinkHead {
     pub answer: Checked,
     pub bytes: [u8; 9],

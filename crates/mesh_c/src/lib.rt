@@ -9,7 +9,7 @@ mod key;
 mod record;
 mod text;
 
-#[derive(Drop)]
+#[derive(Clone, Copy)]
 pub struct Version;
 
 impl Version {

@@ -46,7 +46,7 @@ fn put_line(line: &[u8], out: &mut [u8], at: usize) -> usize
 }
 
 // How far a buffer was filled, and where in the input the next line begins.
-#[derive(Drop)]
+#[derive(Clone, Copy)]
 struct Filled {
     len: usize,
     next: usize,
@@ -98,7 +98,7 @@ fn print(input: &[u8]) -> bool {
     true
 }
 
-#[derive(Drop)]
+#[derive(Clone, Copy)]
 enum Input {
     Bytes(usize),
     Failed,

@@ -22,14 +22,14 @@ use links::{DownlinkPayload, UplinkPayload};
 use packets::{MeshPacket, MeshRead, Payload};
 use wire::be32_of;
 
-#[derive(Drop)]
+#[derive(Clone, Copy)]
 pub enum Validated {
     Valid,
     Invalid,
     Refused(u8),
 }
 
-#[derive(Drop)]
+#[derive(Clone, Copy)]
 enum Made {
     Mic(u32),
     Refused(u8),

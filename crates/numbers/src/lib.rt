@@ -18,7 +18,7 @@ pub use write::write_numbers;
 pub type PacketNumbers = [u64; 17];
 
 // The codes that no type of the crates below has.
-#[derive(Drop)]
+#[derive(Clone, Copy)]
 pub struct Code;
 
 impl Code {

@@ -10,13 +10,13 @@ use base::{Limit, Refusal, Written};
 use fields::MHDR;
 use wire::{Run, emit};
 
-#[derive(Drop)]
+#[derive(Clone, Copy)]
 pub enum Packet {
     Mesh(MeshPacket),
     Lora(Run),
 }
 
-#[derive(Drop)]
+#[derive(Clone, Copy)]
 pub enum PacketRead {
     Packet(Packet),
     Refused(u8),

@@ -12,7 +12,7 @@ use fields::{HeaderByte, HeaderRead, MHDR, PayloadType};
 use links::{DownlinkPayload, DownlinkRead, UplinkPayload, UplinkRead};
 use wire::be32_of;
 
-#[derive(Drop)]
+#[derive(Clone, Copy)]
 pub enum Payload {
     Uplink(UplinkPayload),
     Downlink(DownlinkPayload),
@@ -20,13 +20,13 @@ pub enum Payload {
     Command(CommandPayload),
 }
 
-#[derive(Drop)]
+#[derive(Clone, Copy)]
 pub enum PayloadRead {
     Payload(Payload),
     Refused(u8),
 }
 
-#[derive(Drop)]
+#[derive(Clone, Copy)]
 pub struct MeshPacket {
     pub mhdr: MHDR,
     pub payload: Payload,
@@ -34,7 +34,7 @@ pub struct MeshPacket {
     pub mic: u32,
 }
 
-#[derive(Drop)]
+#[derive(Clone, Copy)]
 pub enum MeshRead {
     Mesh(MeshPacket),
     Refused(u8),

@@ -14,7 +14,7 @@ use items::Opening;
 use keys::Aes128Key;
 
 // What opening answers: the payload from now on, and what was in it.
-#[derive(Drop)]
+#[derive(Clone, Copy)]
 pub enum CommandOpened {
     Opened {
         payload: CommandPayload,

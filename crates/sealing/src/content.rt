@@ -14,7 +14,7 @@ use key_stream::{add_stream, encrypt_events_commands};
 use keys::Aes128Key;
 use wire::Run;
 
-#[derive(Drop)]
+#[derive(Clone, Copy)]
 pub enum Opened {
     Opened { content: Content, opening: Opening },
     // It was open before; nothing is counted.

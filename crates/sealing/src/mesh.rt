@@ -14,7 +14,7 @@ use keys::Aes128Key;
 use packets::{MeshPacket, MeshRead, Payload};
 
 // What opening answers: the packet from now on, and what was in it.
-#[derive(Drop)]
+#[derive(Clone, Copy)]
 pub enum MeshOpened {
     Opened {
         packet: MeshPacket,

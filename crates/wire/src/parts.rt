@@ -4,7 +4,7 @@ ghost use Rattle.wire.specs.Part.{reach_of, part_of};
 
 use base::Refusal;
 
-#[derive(Drop)]
+#[derive(Clone, Copy)]
 pub enum Reach {
     Inside,
     Refused(u8),

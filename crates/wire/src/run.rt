@@ -5,7 +5,7 @@ ghost use Rattle.wire.specs.Run.{run_refusal};
 
 use crate::parts::{Reach, part, reaches};
 
-#[derive(Drop)]
+#[derive(Clone, Copy)]
 pub struct Run {
     pub start: usize,
     pub len: usize,
