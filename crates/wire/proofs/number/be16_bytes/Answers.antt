@@ -1,0 +1,10 @@
+-- `wire::number::be16_bytes` meets its contract. Assumes nothing.
+use Rattle.base.proofs.Lists.{◌◂◌}
+use Rattle.wire.specs.Number.{be_bytes}
+use native.Mathlib.Omega.{arith}
+use mathlib.Core.Path.{refl}
+use Rattle.wire.proofs.number.be16_bytes.Goals as goal
+
+pub returns : goal.returns
+unfolding be_bytes
+returns c = refl ◂ (omega arith) ◂ refl
