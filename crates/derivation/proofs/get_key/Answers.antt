@@ -11,16 +11,12 @@ use Rattle.cipher.specs.inner.Words.{enciphered}
 use Rattle.cipher.proofs.Bridge.{columns_are_bytes}
 use borrow.Author.Rules.{rules}
 use mathlib.Core.Path.{ap, ◌∙◌}
-use Rattle.derivation.proofs.get_key.Statement.{statement}
-use Rattle.derivation.proofs.get_key.Tie as tie
+use Rattle.derivation.proofs.get_key.Goals as goal
 
-returns : tie.Need-returns
-returns c = let a = c.before.before.before.args in
+pub returns : goal.returns
+returns c = let a = c.args in
     let hk : Bytes a.key.0 = λ i. (let f : Fits w8 (get_or a.key.0 i 0) = search rules in f).fits in
     let hf : Fits w8 a.first = search rules in
     c.derive.ensures
-    ∙ ap (λ (e : List ℕ). key_of (enciphered e (a.first ∷ replicate 15 0))) c.before.before.prepare.ensures
+    ∙ ap (λ (e : List ℕ). key_of (enciphered e (a.first ∷ replicate 15 0))) c.prepare-e.ensures
     ∙ ap key_of (columns_are_bytes _ hk _ (cons_lt _ (replicate 15 0) hf.fits (zeros_lt 15)))
-
-pub get_key_spec : {M : Type 1} → statement M
-get_key_spec = tie.close (tie.spec (λ c κs. search rules) (λ c κs. search rules) returns)
