@@ -17,6 +17,6 @@ loop-i-preserved c = (omega arith, shift_more _ _ refl _ c.loop-i.i _ (omega ari
 pub returns : goal.returns
 returns c = let e : c.loop-i.i ≡ 15 = omega arith in
     let p = rw e at c.loop-i.invariant.1 in
-    let n : length c.args.t1 ≡ 16 = search rules in
-    let z : get_or c.args.t1 16 0 ≡ 0 = get_or-eq_default c.args.t1 0 (omega arith) in
-    shift_done _ _ refl _ (shift_more _ _ refl _ 15 _ (omega arith) (c.shl-2.ensures ∙ ap (shl (get_or c.args.t1 15 0)) (sym z)) p)
+    let n : length c.args.l ≡ 16 = search rules in
+    let z : get_or c.args.l 16 0 ≡ 0 = get_or-eq_default c.args.l 0 (omega arith) in
+    shift_done _ _ refl _ (shift_more _ _ refl _ 15 _ (omega arith) (c.shl-2.ensures ∙ ap (shl (get_or c.args.l 15 0)) (sym z)) p)

@@ -8,7 +8,7 @@ use Rattle.cmac_chain.proofs.Mac.fill.Given as goal
 
 abbrev pub invariant-loop-c : goal.invariant-loop-c
 invariant-loop-c l = (l.c ≤ l.end) × (l.initial.c ≤ l.c) × (l.j + l.initial.c ≡ l.initial.j + l.c)
-    × (foldl fill1 (record { l.x = l.initial.x; count = l.initial.c }) (drop l.initial.j l.s) ≡ foldl fill1 (record { l.x = l.x; count = l.c }) (drop l.j l.s))
+    × (foldl fill1 (record { x = l.initial.x; count = l.initial.c }) (drop l.initial.j l.s) ≡ foldl fill1 (record { x = l.x; count = l.c }) (drop l.j l.s))
 
 abbrev pub decreases-loop-c : goal.decreases-loop-c
 decreases-loop-c l = l.end - l.c
