@@ -11,18 +11,14 @@ use Rattle.cmac_chain.specs.Cmac.{tag}
 use Rattle.cmac_chain.proofs.Laws.{tag_same}
 use borrow.Author.Rules.{rules}
 use mathlib.Core.Path.{◌≡◌, ap, ◌∙◌}
-use Rattle.cmac.proofs.cmac.Statement.{statement}
-use Rattle.cmac.proofs.cmac.Tie as tie
+use Rattle.cmac.proofs.cmac.Goals as goal
 
-returns : tie.Need-returns
-returns c = let k = c.before.before.before.before.args.key.0 in
-    let s = c.before.before.before.before.args.s.now in
+pub returns : goal.returns
+returns c = let k = c.args.key.0 in
+    let s = c.args.s.now in
     let n : length k ≡ 16 = search rules in
     let f : (i : ℕ) → Fits w8 (get_or k i 0) = λ i. search rules in
     let b : Block k = record { long = n; small = λ i. (f i).fits } in
     c.tag.ensures
-    ∙ ap (λ (e : List ℕ). tag (enciphered e) s) c.before.before.prepare.ensures
-    ∙ tag_same _ _ (prepared_agrees k b) s (λ i. (c.before.before.before.shared-slice-known.given i).fits)
-
-pub cmac_spec : {M : Type 1} → statement M
-cmac_spec = tie.close (tie.spec (λ c κs. search rules) (λ c κs. search rules) returns)
+    ∙ ap (λ (e : List ℕ). tag (enciphered e) s) c.prepare-e.ensures
+    ∙ tag_same _ _ (prepared_agrees k b) s (λ i. (c.shared_slice_known-1.given i).fits)
