@@ -10,8 +10,10 @@ use Rattle.heartbeats.proofs.heartbeat.HeartbeatPayload.check.Kinds as check_kin
 use Rattle.heartbeats.proofs.heartbeat.HeartbeatPayload.check.Reads as check_reads
 use Rattle.heartbeats.proofs.heartbeat.HeartbeatPayload.entry.Kinds as entry_kinds
 use Rattle.heartbeats.proofs.heartbeat.HeartbeatPayload.entry.Reads as entry_reads
-use Rattle.heartbeats.specs.contracts.heartbeat.HeartbeatPayload.from_slice as from_slice_walk
-use Rattle.heartbeats.specs.contracts.heartbeat.HeartbeatPayload.write as write_walk
+use Rattle.heartbeats.proofs.heartbeat.HeartbeatPayload.from_slice.Kinds as from_slice_kinds
+use Rattle.heartbeats.proofs.heartbeat.HeartbeatPayload.from_slice.Reads as from_slice_reads
+use Rattle.heartbeats.proofs.heartbeat.HeartbeatPayload.write.Kinds as write_kinds
+use Rattle.heartbeats.proofs.heartbeat.HeartbeatPayload.write.Reads as write_reads
 use Rattle.heartbeats.proofs.path.held.Kinds as held_kinds
 use Rattle.heartbeats.proofs.path.held.Reads as held_reads
 use Rattle.heartbeats.proofs.path.path_count.Kinds as path_count_kinds
@@ -31,11 +33,11 @@ check κs a x y v w p q = (p ∙ sym q, refl)
 entry : Fixed 1 entry_kinds.ps entry_kinds.r entry_reads.Post
 entry κs a x y v w p q = (p ∙ sym q, refl)
 
-from_slice : {M : Type 1} (𝓤 : Ura M) (H : Heap 𝓤) → FixedWalk 𝓤 from_slice_walk.ended (from_slice_walk.clauses {𝓤 = 𝓤} _)
-from_slice 𝓤 H 𝓛 mem run κs a g x y v w = all_four 𝓤 _ _ _ _ _ (λ p q p' q'. (p ∙ sym p', ap (λ (l : List RelayPath). (tt, (l, tt))) (q ∙ sym q')))
+from_slice : Fixed 2 from_slice_kinds.ps from_slice_kinds.r from_slice_reads.Post
+from_slice κs a x y v w p q = (p.0 ∙ sym q.0, ap (λ (l : List RelayPath). (tt, (l, tt))) (p.1 ∙ sym q.1))
 
-write : {M : Type 1} (𝓤 : Ura M) (H : Heap 𝓤) → FixedWalk 𝓤 write_walk.ended (write_walk.clauses {𝓤 = 𝓤} _)
-write 𝓤 H 𝓛 mem run κs a g x y v w = all_four 𝓤 _ _ _ _ _ (λ p q p' q'. (p ∙ sym p', ap (λ (l : List ℕ). (tt, (l, tt))) (q ∙ sym q')))
+write : Fixed 2 write_kinds.ps write_kinds.r write_reads.Post
+write κs a x y v w p q = (p.0 ∙ sym q.0, ap (λ (l : List ℕ). (tt, (l, tt))) (p.1 ∙ sym q.1))
 
 held : Fixed 0 held_kinds.ps held_kinds.r held_reads.Post
 held κs a x y v w p q = (p ∙ sym q, refl)

@@ -20,7 +20,7 @@ use Rattle.fields.specs.declared.path.RelayPath.{RelayPath}
 use Rattle.fields.proofs.Laws.Path.{six_length, joined_length}
 use Rattle.heartbeats.specs.Heartbeat.{beat_wire}
 use Rattle.heartbeats.specs.Paths.{PathLists, path_count, path_at, paths_in, path_run, held_of}
-use Rattle.heartbeats.proofs.Runs.{held_in, run_length, run_at_lem, run_all, path_length, told_bad, told_some, told_good, told_six}
+use Rattle.heartbeats.proofs.Runs.{held_in_lem, run_length, run_at_lem, run_all, path_length, told_bad, told_some, told_good, told_six}
 
 module _ (l : PathLists) (place len k n : ℕ) (ek : k ≡ path_count l) (en : n ≡ held_of k place len) where
   abbrev ps : List RelayPath
@@ -36,7 +36,7 @@ module _ (l : PathLists) (place len k n : ℕ) (ek : k ≡ path_count l) (en : n
   run_count = run_length l place len ∙ sym count
 
   pub entry_in : (i : ℕ) → i < n → place + i < path_count l
-  entry_in i h = held_in (path_count l) place len i (rw (← count) h)
+  entry_in i h = held_in_lem (path_count l) place len i (rw (← count) h)
 
   module _ (i : ℕ) (w : PathBytes) (h : i < n) (e : w ≡ path_bytes (path_at l (place + i))) where
     abbrev p : RelayPath

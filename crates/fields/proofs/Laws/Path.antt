@@ -28,7 +28,7 @@ use Rattle.fields.proofs.Laws.Meta.{signals, same_bytes}
 pub path_back : (p : RelayPath) (w : List ℕ) → p.relay_id < 4294967296 → path_wire p ≡ bytes w → (length w ≡ 6) × (Bytes w) × (path_of w ≡ even_entry p)
 unfolding path_wire be_bytes
 path_back p w h e =
-    let g = signals _ _ _ _ w e in
+    let g = signals (be_bytes 4 p.relay_id) [] _ _ w e in
     let i = of_bytes 4 p.relay_id h in
     let r = rssi_back p.rssi g.rssi g.rssi_is in
     let s = snr_back p.snr g.snr g.snr_is in
