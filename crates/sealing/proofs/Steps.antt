@@ -21,7 +21,7 @@ use Rattle.wire.specs.Run.{run_refusal, run_bytes}
 use Rattle.wire.specs.declared.run.Run.{Run}
 use Rattle.cipher.specs.inner.Words.{prepared, enciphered}
 use Rattle.key_stream.specs.Stream.{numbered, streamed, sealed_of}
-use Rattle.key_stream.proofs.Turns.{too_long, too_short, sealed_in}
+use Rattle.key_stream.proofs.Turns.{too_long_lem, too_short, sealed_in}
 use Rattle.items.specs.Items.{opening_of}
 use Rattle.composed_items.specs.inner.Passes.{capped}
 use Rattle.links.proofs.Steps.{Outcome, refuses, same_frame}
@@ -115,7 +115,7 @@ module _ (key : List ℕ) (ev : Bool) (relay time : ℕ) (l : Lent) (b : Content
     as_content a x = same_frame _ sealed a x o (sym (not_refused (content_refusal ev l b) sealed (sym ek ∙ z)))
 
     pub seal_long : 8179 < n → Outcome (NotWritten frame_long) o (content_seal key ev relay time l b) o
-    seal_long h = as_content (NotWritten frame_long) o (too_long key ev relay time clear o (capped_large n _ en h))
+    seal_long h = as_content (NotWritten frame_long) o (too_long_lem key ev relay time clear o (capped_large n _ en h))
 
     pub seal_short : n ≤ 8179 → length o < n → Outcome (NotWritten output_short) o (content_seal key ev relay time l b) o
     seal_short f h =

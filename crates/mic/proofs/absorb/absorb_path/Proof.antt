@@ -7,7 +7,7 @@ use Rattle.base.specs.Lists.{joined}
 use Rattle.cipher.specs.inner.Words.{enciphered}
 use Rattle.fields.specs.Path.{six_of}
 use Rattle.heartbeats.specs.Paths.{paths, path_run}
-use Rattle.heartbeats.proofs.Loops.{entry_in, six_ahead, six_none, path_bytes}
+use Rattle.heartbeats.proofs.Loops.{entry_in, six_ahead, six_none, path_bytes_lem}
 use Rattle.mic.proofs.Absorbing.{Left, left_more, left_none, headed_more, low_six}
 use borrow.Author.Rules.{rules}
 use Rattle.mic.proofs.absorb.absorb_path.Statement.{statement}
@@ -34,7 +34,7 @@ loop_again c = let a = c.before.before.before.before.before.before.before.before
 returns : tie.Need-returns invariant-loop decreases-loop
 returns c = let a = c.before.before.before.before.before.before.before.before.args in let l = paths a.ids.now a.rssis.now a.snrs.now in
     let v = joined six_of (path_run l a.start a.len) in
-    let y = path_bytes l a.start a.len _ _ c.before.before.before.before.before.before.path-count.ensures c.before.before.before.before.before.held.ensures in
+    let y = path_bytes_lem l a.start a.len _ _ c.before.before.before.before.before.before.path-count.ensures c.before.before.before.before.before.held.ensures in
     headed_more _ _ _ _ _ c.before.before.absorb.ensures _ v (c.before.before.before.before.low_byte.ensures ∙ low_six _ ∙ ap (λ (x : ℕ). x % 256) (sym y))
     (left_none _ _ _ _ _ c.before.loop.invariant (six_none l a.start a.len _ _ c.before.before.before.before.before.before.path-count.ensures c.before.before.before.before.before.held.ensures _ c.loop-test.false))
 
