@@ -1,0 +1,7 @@
+-- `sealing::command::decrypt` meets its contract. Assumes nothing.
+use mathlib.Core.Path.{ap, ◌∙◌}
+use Rattle.sealing.specs.Seal.{command_opened}
+use Rattle.sealing.proofs.command.decrypt.Goals as goal
+
+pub returns : goal.returns
+returns c = record { answer = c.opened.ensures ∙ ap (command_opened c.args.payload) c.decrypt.ensures.answer; work = c.decrypt.ensures.work }
