@@ -16,7 +16,8 @@ use Rattle.cache.proofs.ring.Cache.new.Kinds as new_kinds
 use Rattle.cache.proofs.ring.Cache.new.Reads as new_reads
 use Rattle.cache.proofs.ring.Cache.added.Kinds as added_kinds
 use Rattle.cache.proofs.ring.Cache.added.Reads as added_reads
-use Rattle.cache.specs.contracts.ring.Cache.add as add_walk
+use Rattle.cache.proofs.ring.Cache.add.Kinds as add_kinds
+use Rattle.cache.proofs.ring.Cache.add.Reads as add_reads
 
 from_packet : Fixed 0 from_packet_kinds.ps from_packet_kinds.r from_packet_reads.Post
 from_packet κs a x y v w p q = (p ∙ sym q, refl)
@@ -36,5 +37,5 @@ new κs a x y v w p q = (p ∙ sym q, refl)
 added : Fixed 0 added_kinds.ps added_kinds.r added_reads.Post
 added κs a x y v w p q = (p ∙ sym q, refl)
 
-add : {M : Type 1} (𝓤 : Ura M) (H : Heap 𝓤) → FixedWalk 𝓤 add_walk.ended (add_walk.clauses {𝓤 = 𝓤} _)
-add 𝓤 H 𝓛 mem run κs a g x y v w = all_four 𝓤 _ _ _ _ _ (λ p q p' q'. (p ∙ sym p', ap (λ (c : Cache). (c, (tt, tt))) (q ∙ sym q')))
+add : Fixed 1 add_kinds.ps add_kinds.r add_reads.Post
+add κs a x y v w p q = (p.0 ∙ sym q.0, ap (λ (c : Cache). (c, (tt, tt))) (p.1 ∙ sym q.1))

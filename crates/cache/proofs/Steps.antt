@@ -59,10 +59,6 @@ looked_more l r d n i g h k e =
 
 -- ---- numbers
 
--- a cache of the code has 64 places
-pub slots_long : (c : Cache) (vs : List Val) → Is T.the_row c vs → length c.slots ≡ 64
-slots_long c vs p = sym (length-map c.slots (R.the_field).into) ∙ p.1.1.0.1.0.1
-
 -- how many there are to look through
 pub count_small : (len size n : ℕ) → n ≡ min len size → size ≤ 64 → n ≤ 64
 count_small len size n e h =
