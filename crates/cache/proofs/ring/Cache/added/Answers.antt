@@ -4,7 +4,7 @@ use Prim.Native.Nat.{ℕ, ◌%◌, ◌≤◌, ◌<◌}
 use native.Mathlib.Omega.{arith}
 use lib.ListN.{length, take}
 use Rattle.cache.specs.Cache.{has}
-use Rattle.cache.proofs.Steps.{looked_none, looked_more, has_there, added_none, added_large, added_seen, added_new, count_small, place_small, slots_long}
+use Rattle.cache.proofs.Steps.{looked_none, looked_more, has_there, added_none, added_large, added_seen, added_new, count_small, place_small}
 use borrow.Author.Rules.{rules}
 use Rattle.cache.proofs.ring.Cache.added.Goals as goal
 
