@@ -5,7 +5,7 @@ use mathlib.Core.Bool.{Bool, true, false, not}
 use mathlib.Core.Path.{◌≡◌, refl, sym, ap, ◌∙◌}
 use mathlib.Core.Logic.{◌⊎◌, inl, inr}
 use lib.Dec.{ltb, leb, eqb}
-use mathlib.Core.List.{List, [], ◌∷◌, map}
+use mathlib.Core.List.{◌++◌, List, [], ◌∷◌, map}
 use lib.IntN.{ℤ, pos, negsuc, neg_ℤ}
 use lib.ListN.{length, get_or, take, drop, replicate}
 use borrow.Author.Tests.{lt-ltb, le-ltb, ltb-true, ltb-false, le-leb, lt-leb, leb-true, leb-false, eq-eqb, ne_eqb, eqb-true, eqb-false}
@@ -44,6 +44,7 @@ use Rattle.fields.proofs.Laws.Meta.{up_back, up_again, up_same, up_even, down_ba
 use Rattle.fields.proofs.Laws.Path.{path_back, path_again, path_same, path_even}
 use Rattle.heartbeats.specs.Heartbeat.{six_at, entry_at, paths_of, beat_refusal, entry_refusal, beat_of, path_after, entry_read, beat_wire, beat_says, path_says, no_path, FourByteIds}
 use Rattle.heartbeats.specs.declared.heartbeat.HeartbeatPayload.{HeartbeatPayload}
+use Rattle.heartbeats.specs.declared.heartbeat.HeartbeatRead.TheVariants.{Heartbeat, Refused as NoBeat}
 use Rattle.heartbeats.specs.declared.heartbeat.PathRead.TheVariants.{Entry, Refused as NoEntry}
 use Rattle.heartbeats.proofs.Laws.{refused_entries, taken_entries, beat_back, even_beat}
 use Rattle.items.specs.Items.{is_beat, bad_beat, opening_of, kind_of, path_kind, item_at, Turn, walked_to, kept_item, no_item, item_says, listed_items}
