@@ -34,8 +34,7 @@ pub(crate) fn from_u32(x: u32) -> u64
 }
 
 // Whether a number is a type's: 0, or 29. The types are 0 uplink, 1 downlink, 2 event and 3 command.
-#[unsafe(no_mangle)]
-pub extern "C" fn mesh_type(n: u8) -> u8
+pub fn mesh_type(n: u8) -> u8
     ensures { result ≡ number_in (type_says (type_read n)) }
 {
     match PayloadType::from_byte(n) {
@@ -45,8 +44,7 @@ pub extern "C" fn mesh_type(n: u8) -> u8
 }
 
 // Type and hop count of a header byte: 0, or 3.
-#[unsafe(no_mangle)]
-pub extern "C" fn mesh_header_read(b: u8, header: &mut [u8; 2]) -> u8
+pub fn mesh_header_read(b: u8, header: &mut [u8; 2]) -> u8
     ensures answer { result ≡ number_in (header_says (header_of b)) }
     ensures header { header.new ≡ left_by header_list header.old (header_says (header_of b)) }
 {
@@ -76,8 +74,7 @@ fn header_byte(type_code: u8, hop_count: u8) -> HeaderByte
 }
 
 // And back: 0, or 29, 6, 7.
-#[unsafe(no_mangle)]
-pub extern "C" fn mesh_header_write(type_code: u8, hop_count: u8, b: &mut u8) -> u8
+pub fn mesh_header_write(type_code: u8, hop_count: u8, b: &mut u8) -> u8
     ensures answer { result ≡ number_in (byte_says (header_byte_by hop_count (type_read type_code))) }
     ensures b { b.new ≡ left_by as_it_is b.old (byte_says (header_byte_by hop_count (type_read type_code))) }
 {
@@ -91,8 +88,7 @@ pub extern "C" fn mesh_header_write(type_code: u8, hop_count: u8, b: &mut u8) ->
 }
 
 // Uplink id, data rate, channel and odd bits; rssi and snr. Every five bytes are read.
-#[unsafe(no_mangle)]
-pub extern "C" fn mesh_uplink_metadata_read(
+pub fn mesh_uplink_metadata_read(
     b: &[u8; 5],
     numbers: &mut [u64; 4],
     rssi: &mut i16,
@@ -116,8 +112,7 @@ pub extern "C" fn mesh_uplink_metadata_read(
 }
 
 // 0, or 8 to 13 in their order. Odd bits are not written.
-#[unsafe(no_mangle)]
-pub extern "C" fn mesh_uplink_metadata_write(
+pub fn mesh_uplink_metadata_write(
     uplink_id: u16,
     dr: u8,
     rssi: i16,
@@ -149,8 +144,7 @@ pub extern "C" fn mesh_uplink_metadata_write(
 }
 
 // Uplink id, data rate, frequency, transmit power and delay.
-#[unsafe(no_mangle)]
-pub extern "C" fn mesh_downlink_metadata_read(b: &[u8; 6], numbers: &mut [u64; 5])
+pub fn mesh_downlink_metadata_read(b: &[u8; 6], numbers: &mut [u64; 5])
     ensures { numbers.new ≡ down_list (down_of b.now) }
 {
     let m = DownlinkMetadata::from_bytes(*b);
@@ -164,8 +158,7 @@ pub extern "C" fn mesh_downlink_metadata_read(b: &[u8; 6], numbers: &mut [u64; 5
 }
 
 // 0, or 8, 9, 14 to 18, 38 in their order.
-#[unsafe(no_mangle)]
-pub extern "C" fn mesh_downlink_metadata_write(
+pub fn mesh_downlink_metadata_write(
     uplink_id: u16,
     dr: u8,
     frequency: u32,
@@ -196,8 +189,7 @@ pub extern "C" fn mesh_downlink_metadata_write(
 }
 
 // Hertz: 0, or 28.
-#[unsafe(no_mangle)]
-pub extern "C" fn mesh_frequency_read(b: &[u8], hertz: &mut u32) -> u8
+pub fn mesh_frequency_read(b: &[u8], hertz: &mut u32) -> u8
     ensures answer { result ≡ number_in (freq_says (freq_read b.now)) }
     ensures hertz { hertz.new ≡ left_by as_it_is hertz.old (freq_says (freq_read b.now)) }
 {
@@ -211,8 +203,7 @@ pub extern "C" fn mesh_frequency_read(b: &[u8], hertz: &mut u32) -> u8
 }
 
 // 0, or 17, 18, 38.
-#[unsafe(no_mangle)]
-pub extern "C" fn mesh_frequency_write(hertz: u32, b: &mut [u8; 3]) -> u8
+pub fn mesh_frequency_write(hertz: u32, b: &mut [u8; 3]) -> u8
     ensures answer { result ≡ number_in (checked_says (freq_bytes hertz).answer (freq_bytes hertz).bytes) }
     ensures b { b.new ≡ left_by as_it_is b.old (checked_says (freq_bytes hertz).answer (freq_bytes hertz).bytes) }
 {
@@ -229,8 +220,7 @@ pub extern "C" fn mesh_frequency_write(hertz: u32, b: &mut [u8; 3]) -> u8
 }
 
 // A path entry: relay id; rssi, snr and odd bits.
-#[unsafe(no_mangle)]
-pub extern "C" fn mesh_path_read(
+pub fn mesh_path_read(
     b: &[u8; 6],
     relay_id: &mut u32,
     rssi: &mut i16,
@@ -252,8 +242,7 @@ pub extern "C" fn mesh_path_read(
 }
 
 // 0, or 10 to 13. Odd bits are not written.
-#[unsafe(no_mangle)]
-pub extern "C" fn mesh_path_write(relay_id: u32, rssi: i16, snr: i8, b: &mut [u8; 6]) -> u8
+pub fn mesh_path_write(relay_id: u32, rssi: i16, snr: i8, b: &mut [u8; 6]) -> u8
     ensures answer { result ≡ number_in (checked_says (path_bytes (record { relay_id = relay_id; rssi = rssi; snr = snr; odd = 0 })).answer (path_bytes (record { relay_id = relay_id; rssi = rssi; snr = snr; odd = 0 })).bytes) }
     ensures b { b.new ≡ left_by as_it_is b.old (checked_says (path_bytes (record { relay_id = relay_id; rssi = rssi; snr = snr; odd = 0 })).answer (path_bytes (record { relay_id = relay_id; rssi = rssi; snr = snr; odd = 0 })).bytes) }
 {

@@ -31,8 +31,7 @@ use sealing::MeshOpened;
 // ---- reading
 
 // Any frame: 0, or 1, 5, 2, 4 with nothing changed.
-#[unsafe(no_mangle)]
-pub extern "C" fn mesh_read(
+pub fn mesh_read(
     frame: &[u8],
     numbers: &mut PacketNumbers,
     rssi: &mut i16,
@@ -47,8 +46,7 @@ pub extern "C" fn mesh_read(
 }
 
 // A mesh frame: 1, 5, 2, 3, 4.
-#[unsafe(no_mangle)]
-pub extern "C" fn mesh_read_mesh(
+pub fn mesh_read_mesh(
     frame: &[u8],
     numbers: &mut PacketNumbers,
     rssi: &mut i16,
@@ -63,8 +61,7 @@ pub extern "C" fn mesh_read_mesh(
 }
 
 // A body alone: 29, 5, 4.
-#[unsafe(no_mangle)]
-pub extern "C" fn mesh_read_body(
+pub fn mesh_read_body(
     kind: u8,
     b: &[u8],
     numbers: &mut PacketNumbers,
@@ -82,8 +79,7 @@ pub extern "C" fn mesh_read_body(
 // ---- writing
 
 // 29, then in the order of writing; the frame's length in `length`.
-#[unsafe(no_mangle)]
-pub extern "C" fn mesh_write<'a>(
+pub fn mesh_write<'a>(
     numbers: &PacketNumbers,
     rssi: i16,
     snr: i8,
@@ -157,8 +153,7 @@ fn write_alone<'a>(
 }
 
 // The body alone.
-#[unsafe(no_mangle)]
-pub extern "C" fn mesh_write_body<'a>(
+pub fn mesh_write_body<'a>(
     numbers: &PacketNumbers,
     rssi: i16,
     snr: i8,
@@ -221,8 +216,7 @@ fn put_signed(read: MeshRead, numbers: &mut PacketNumbers) -> u8
 }
 
 // The MIC that a packet has under a signing key, in place: has_mic becomes 1, and mic the MIC. What MIC it came with does not matter.
-#[unsafe(no_mangle)]
-pub extern "C" fn mesh_sign<'a>(
+pub fn mesh_sign<'a>(
     numbers: &mut PacketNumbers,
     rssi: i16,
     snr: i8,
@@ -276,8 +270,7 @@ fn validate_numbers<'a>(
 }
 
 // Whether a packet has the MIC that it should have under a signing key: 0 with 1 or 0 in `valid`, or the number with nothing changed.
-#[unsafe(no_mangle)]
-pub extern "C" fn mesh_validate<'a>(
+pub fn mesh_validate<'a>(
     numbers: &PacketNumbers,
     rssi: i16,
     snr: i8,
@@ -320,8 +313,7 @@ pub extern "C" fn mesh_validate<'a>(
 }
 
 // The hop edit in the received buffer: 0, or the number with no byte changed.
-#[unsafe(no_mangle)]
-pub extern "C" fn mesh_set_hop_count(key: &[u8; 16], frame: &mut [u8], hop_count: u8) -> u8
+pub fn mesh_set_hop_count(key: &[u8; 16], frame: &mut [u8], hop_count: u8) -> u8
     ensures answer { result ≡ checked_number (checked_of (hop_edit (aes key.now) frame.old hop_count)) }
     ensures frame { frame.new ≡ leaves (hop_edit (aes key.now) frame.old hop_count) frame.old }
 {
@@ -372,8 +364,7 @@ fn seal_numbers<'a>(
 }
 
 // The packet with its payload sealed, which lies at the front of `out`: `out` is its frame from then on.
-#[unsafe(no_mangle)]
-pub extern "C" fn mesh_seal<'a>(
+pub fn mesh_seal<'a>(
     numbers: &mut PacketNumbers,
     key: &[u8; 16],
     frame: &'a [u8],
@@ -437,8 +428,7 @@ fn decrypt_numbers(
 }
 
 // The packet with its payload opened, which lies at the front of `work`, and what was in it: 29, 22, 23, 45, 5, 21.
-#[unsafe(no_mangle)]
-pub extern "C" fn mesh_decrypt(
+pub fn mesh_decrypt(
     numbers: &mut PacketNumbers,
     key: &[u8; 16],
     frame: &[u8],
@@ -464,8 +454,7 @@ fn decode_numbers<'a>(numbers: &PacketNumbers, frame: &'a [u8], work: &'a [u8]) 
 }
 
 // The same of a payload that is clear as it stands: 29, 45, 5, or 255 where it is open already.
-#[unsafe(no_mangle)]
-pub extern "C" fn mesh_decode<'a>(
+pub fn mesh_decode<'a>(
     numbers: &mut PacketNumbers,
     frame: &'a [u8],
     work: &'a [u8],
@@ -501,8 +490,7 @@ fn known_time(kind: u64, timestamp: u32) -> u32
 }
 
 // What the duplicate cache knows a packet by: type, uplink id, timestamp and relay id; 29.
-#[unsafe(no_mangle)]
-pub extern "C" fn mesh_record(numbers: &PacketNumbers, record: &mut [u64; 4]) -> u8
+pub fn mesh_record(numbers: &PacketNumbers, record: &mut [u64; 4]) -> u8
     ensures answer { result ≡ number_in (mesh_says (mesh_from numbers.now (pos 0) (pos 0))) }
     ensures record { «record».new ≡ left_by record_in «record».old (mesh_says (mesh_from numbers.now (pos 0) (pos 0))) }
 {

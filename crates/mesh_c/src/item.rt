@@ -18,8 +18,7 @@ use keys::Aes128Key;
 use numbers::from_bool;
 
 // A payload sealed, or a sealed one opened: 0, 5 or 21.
-#[unsafe(no_mangle)]
-pub extern "C" fn mesh_stream(
+pub fn mesh_stream(
     key: &[u8; 16],
     is_command: bool,
     relay_id: u32,
@@ -83,8 +82,7 @@ fn counted(is_event: bool, payload: &[u8]) -> OpeningRead
 }
 
 // What a clear payload holds: 0, or 5.
-#[unsafe(no_mangle)]
-pub extern "C" fn mesh_count(is_event: bool, payload: &[u8], counts: &mut [u64; 6]) -> u8
+pub fn mesh_count(is_event: bool, payload: &[u8], counts: &mut [u64; 6]) -> u8
     ensures answer { result ≡ number_in (counts_say (counts_of is_event payload.now)) }
     ensures counts { counts.new ≡ left_by count_list counts.old (counts_say (counts_of is_event payload.now)) }
 {
@@ -123,8 +121,7 @@ fn item_numbers(what: u64, item: Item, next: usize) -> [u64; 6]
 
 // What stands at a place of a clear payload: 0, or 5. In `item`: 0 the end, 1 an item, 2 a skipped heartbeat, 3 a cut tail; then its kind as
 // `ItemKind` has it, its tag, place and length of its value, and the place behind it, which of a cut tail and of the end is the payload's length.
-#[unsafe(no_mangle)]
-pub extern "C" fn mesh_item(is_event: bool, payload: &[u8], at: u64, item: &mut [u64; 6]) -> u8
+pub fn mesh_item(is_event: bool, payload: &[u8], at: u64, item: &mut [u64; 6]) -> u8
     ensures answer { result ≡ number_in (item_says (bare_item_at is_event payload.now at)) }
     ensures item { item.new ≡ left_by found_list item.old (item_says (bare_item_at is_event payload.now at)) }
 {
@@ -150,8 +147,7 @@ pub extern "C" fn mesh_item(is_event: bool, payload: &[u8], at: u64, item: &mut 
 }
 
 // One item alone, of a kind, a tag and a value in bytes: 0 with its length, or 29, 19, 20, 21.
-#[unsafe(no_mangle)]
-pub extern "C" fn mesh_item_write(
+pub fn mesh_item_write(
     is_event: bool,
     kind: u8,
     tag: u8,
@@ -169,8 +165,7 @@ pub extern "C" fn mesh_item_write(
 // ---- heartbeats
 
 // How many path entries a heartbeat's value holds, where a list of so many places is to take them: 0, or 19, 20, 21.
-#[unsafe(no_mangle)]
-pub extern "C" fn mesh_heartbeat(value: &[u8], places: u64, entries: &mut u64) -> u8
+pub fn mesh_heartbeat(value: &[u8], places: u64, entries: &mut u64) -> u8
     ensures answer { result ≡ number_in (beat_says (beat_of value.now places)) }
     ensures entries { entries.new ≡ left_by entries_in entries.old (beat_says (beat_of value.now places)) }
 {
@@ -184,8 +179,7 @@ pub extern "C" fn mesh_heartbeat(value: &[u8], places: u64, entries: &mut u64) -
 }
 
 // One of them: 0, or 19, 20, 45.
-#[unsafe(no_mangle)]
-pub extern "C" fn mesh_heartbeat_entry(
+pub fn mesh_heartbeat_entry(
     value: &[u8],
     i: u64,
     relay_id: &mut u32,
@@ -214,8 +208,7 @@ pub extern "C" fn mesh_heartbeat_entry(
 }
 
 // A value of entries in three lists, the shortest of which counts: 0 with its length, or 10 to 13 of the first bad entry, 19, 21.
-#[unsafe(no_mangle)]
-pub extern "C" fn mesh_heartbeat_write(
+pub fn mesh_heartbeat_write(
     ids: &[u32],
     rssis: &[i16],
     snrs: &[i8],

@@ -32,8 +32,7 @@ fn put_key(read: KeyRead, key: &mut [u8; 16]) -> u8
 }
 
 // A key of 16 bytes: 0, or 25.
-#[unsafe(no_mangle)]
-pub extern "C" fn mesh_key(b: &[u8], key: &mut [u8; 16]) -> u8
+pub fn mesh_key(b: &[u8], key: &mut [u8; 16]) -> u8
     ensures answer { result ≡ number_in (key_says (key_from_slice b.now)) }
     ensures key { key.new ≡ left_by key_bytes key.old (key_says (key_from_slice b.now)) }
 {
@@ -41,8 +40,7 @@ pub extern "C" fn mesh_key(b: &[u8], key: &mut [u8; 16]) -> u8
 }
 
 // A key of 32 digits in either case: 0, or 25, 26.
-#[unsafe(no_mangle)]
-pub extern "C" fn mesh_key_of_text(text: &[u8], key: &mut [u8; 16]) -> u8
+pub fn mesh_key_of_text(text: &[u8], key: &mut [u8; 16]) -> u8
     ensures answer { result ≡ number_in (key_says (key_from_text text.now)) }
     ensures key { key.new ≡ left_by key_bytes key.old (key_says (key_from_text text.now)) }
 {
@@ -50,8 +48,7 @@ pub extern "C" fn mesh_key_of_text(text: &[u8], key: &mut [u8; 16]) -> u8
 }
 
 // Its 32 digits in lower case, at the front of `out`: 0, or 21.
-#[unsafe(no_mangle)]
-pub extern "C" fn mesh_key_text(key: &[u8; 16], out: &mut [u8]) -> u8
+pub fn mesh_key_text(key: &[u8; 16], out: &mut [u8]) -> u8
     ensures answer { result ≡ number_in (written_says (answer_of (bytes (hex_text key.now)) out.old)) }
     ensures out { out.new ≡ out_of (bytes (hex_text key.now)) out.old }
 {
@@ -61,22 +58,19 @@ pub extern "C" fn mesh_key_text(key: &[u8; 16], out: &mut [u8]) -> u8
     }
 }
 
-#[unsafe(no_mangle)]
-pub extern "C" fn mesh_null_key(key: &mut [u8; 16])
+pub fn mesh_null_key(key: &mut [u8; 16])
     ensures { key.new ≡ null_key.0 }
 {
     *key = Aes128Key::null().to_bytes();
 }
 
-#[unsafe(no_mangle)]
-pub extern "C" fn mesh_signing_key(root: &[u8; 16], key: &mut [u8; 16])
+pub fn mesh_signing_key(root: &[u8; 16], key: &mut [u8; 16])
     ensures { key.new ≡ signing_key root.now }
 {
     *key = get_signing_key(Aes128Key::from_bytes(*root)).to_bytes();
 }
 
-#[unsafe(no_mangle)]
-pub extern "C" fn mesh_encryption_key(root: &[u8; 16], key: &mut [u8; 16])
+pub fn mesh_encryption_key(root: &[u8; 16], key: &mut [u8; 16])
     ensures { key.new ≡ encryption_key root.now }
 {
     *key = get_encryption_key(Aes128Key::from_bytes(*root)).to_bytes();
@@ -85,8 +79,7 @@ pub extern "C" fn mesh_encryption_key(root: &[u8; 16], key: &mut [u8; 16])
 // ---- the cipher
 
 // One block under a key, in place.
-#[unsafe(no_mangle)]
-pub extern "C" fn mesh_encrypt_block(key: &[u8; 16], block: &mut [u8; 16])
+pub fn mesh_encrypt_block(key: &[u8; 16], block: &mut [u8; 16])
     ensures { block.new ≡ aes key.now block.old }
 {
     let r = encrypt_block(Aes128Key::from_bytes(*key), *block);
@@ -94,16 +87,14 @@ pub extern "C" fn mesh_encrypt_block(key: &[u8; 16], block: &mut [u8; 16])
 }
 
 // A cipher made ready for a key, once for many blocks.
-#[unsafe(no_mangle)]
-pub extern "C" fn mesh_prepare(key: &[u8; 16], cipher: &mut Cipher)
+pub fn mesh_prepare(key: &[u8; 16], cipher: &mut Cipher)
     ensures { cipher.new ≡ prepared key.now }
 {
     let r = prepare(Aes128Key::from_bytes(*key));
     *cipher = r;
 }
 
-#[unsafe(no_mangle)]
-pub extern "C" fn mesh_encipher(cipher: &Cipher, block: &mut [u8; 16])
+pub fn mesh_encipher(cipher: &Cipher, block: &mut [u8; 16])
     ensures { block.new ≡ enciphered cipher.now block.old }
 {
     let r = encipher(cipher, *block);
@@ -111,8 +102,7 @@ pub extern "C" fn mesh_encipher(cipher: &Cipher, block: &mut [u8; 16])
 }
 
 // RFC 4493's tag of a message under a key.
-#[unsafe(no_mangle)]
-pub extern "C" fn mesh_cmac(key: &[u8; 16], message: &[u8], out: &mut [u8; 16])
+pub fn mesh_cmac(key: &[u8; 16], message: &[u8], out: &mut [u8; 16])
     ensures { out.new ≡ tag (aes key.now) message.now }
 {
     let r = cmac(Aes128Key::from_bytes(*key), message);
@@ -120,8 +110,7 @@ pub extern "C" fn mesh_cmac(key: &[u8; 16], message: &[u8], out: &mut [u8; 16])
 }
 
 // The same under a cipher that is ready.
-#[unsafe(no_mangle)]
-pub extern "C" fn mesh_mac(cipher: &Cipher, message: &[u8], out: &mut [u8; 16])
+pub fn mesh_mac(cipher: &Cipher, message: &[u8], out: &mut [u8; 16])
     ensures { out.new ≡ tag (enciphered cipher.now) message.now }
 {
     let r = tag(cipher, message);

@@ -9,6 +9,13 @@ mod key;
 mod record;
 mod text;
 
+pub use field::{mesh_type, mesh_header_read, mesh_header_write, mesh_uplink_metadata_read, mesh_uplink_metadata_write, mesh_downlink_metadata_read, mesh_downlink_metadata_write, mesh_frequency_read, mesh_frequency_write, mesh_path_read, mesh_path_write};
+pub use frame::{mesh_read, mesh_read_mesh, mesh_read_body, mesh_write, mesh_write_body, mesh_sign, mesh_validate, mesh_set_hop_count, mesh_seal, mesh_decrypt, mesh_decode, mesh_record};
+pub use item::{mesh_stream, mesh_count, mesh_item, mesh_item_write, mesh_heartbeat, mesh_heartbeat_entry, mesh_heartbeat_write};
+pub use key::{mesh_key, mesh_key_of_text, mesh_key_text, mesh_null_key, mesh_signing_key, mesh_encryption_key, mesh_encrypt_block, mesh_prepare, mesh_encipher, mesh_cmac, mesh_mac};
+pub use record::{mesh_cache_clear, mesh_cache_add};
+pub use text::{mesh_dump_line, mesh_dump_frame, mesh_text};
+
 #[derive(Clone, Copy)]
 pub struct Version;
 
@@ -18,8 +25,7 @@ impl Version {
 }
 
 // What a caller holds its header to, before all else.
-#[unsafe(no_mangle)]
-pub extern "C" fn mesh_version() -> u32
+pub fn mesh_version() -> u32
     ensures { result ≡ face_version }
 {
     Version::FACE

@@ -14,8 +14,7 @@ use fields::{PayloadType, RelayId, Timestamp};
 use numbers::to_u32;
 
 // An empty cache of the last `size` records: 0, or 24 with the words as they were.
-#[unsafe(no_mangle)]
-pub extern "C" fn mesh_cache_clear(words: &mut Words, size: u32) -> u8
+pub fn mesh_cache_clear(words: &mut Words, size: u32) -> u8
     ensures answer { result ≡ checked_number (clear_answer size) }
     ensures words { words.new ≡ clear_words size words.old }
 {
@@ -34,8 +33,7 @@ fn head_word(p_type: u64, uplink_id: u64) -> u32
 
 // A record added: 0 with 1 in `is_new` where it is new and 0 where it is one of the last, or 29, 24 with nothing changed. Its numbers go straight into
 // the cache's words: a record would be built in memory and taken apart again.
-#[unsafe(no_mangle)]
-pub extern "C" fn mesh_cache_add(words: &mut Words, record: &[u64; 4], is_new: &mut u8) -> u8
+pub fn mesh_cache_add(words: &mut Words, record: &[u64; 4], is_new: &mut u8) -> u8
     ensures answer { result ≡ number_in (add_says (cache_answer words.old «record».now)) }
     ensures words { words.new ≡ cache_words words.old «record».now }
     ensures is_new { is_new.new ≡ left_by bit is_new.old (add_says (cache_answer words.old «record».now)) }

@@ -11,8 +11,7 @@ use numbers::{PacketNumbers, mesh_of};
 use packets::MeshRead;
 
 // 0 with the text's length, or 21.
-#[unsafe(no_mangle)]
-pub extern "C" fn mesh_dump_line(line: &[u8], out: &mut [u8], length: &mut u64) -> u8
+pub fn mesh_dump_line(line: &[u8], out: &mut [u8], length: &mut u64) -> u8
     ensures answer { result ≡ number_in (written_says (answer_of (bytes (line_text line.now)) out.old)) }
     ensures out { out.new ≡ out_of (bytes (line_text line.now)) out.old }
     ensures length { length.new ≡ left_by as_it_is length.old (written_says (answer_of (bytes (line_text line.now)) out.old)) }
@@ -20,8 +19,7 @@ pub extern "C" fn mesh_dump_line(line: &[u8], out: &mut [u8], length: &mut u64) 
     put_length(dump_line(line, out), length)
 }
 
-#[unsafe(no_mangle)]
-pub extern "C" fn mesh_dump_frame(frame: &[u8], out: &mut [u8], length: &mut u64) -> u8
+pub fn mesh_dump_frame(frame: &[u8], out: &mut [u8], length: &mut u64) -> u8
     ensures answer { result ≡ number_in (written_says (answer_of (bytes (frame_text frame.now)) out.old)) }
     ensures out { out.new ≡ out_of (bytes (frame_text frame.now)) out.old }
     ensures length { length.new ≡ left_by as_it_is length.old (written_says (answer_of (bytes (frame_text frame.now)) out.old)) }
@@ -40,8 +38,7 @@ fn text_of(numbers: &PacketNumbers, out: &mut [u8]) -> Written
 }
 
 // Of a mesh packet: 0 with the text's length, or 29, 21.
-#[unsafe(no_mangle)]
-pub extern "C" fn mesh_text(numbers: &PacketNumbers, out: &mut [u8], length: &mut u64) -> u8
+pub fn mesh_text(numbers: &PacketNumbers, out: &mut [u8], length: &mut u64) -> u8
     ensures answer { result ≡ number_in (written_says (answer_of (numbers_text numbers.now) out.old)) }
     ensures out { out.new ≡ out_of (numbers_text numbers.now) out.old }
     ensures length { length.new ≡ left_by as_it_is length.old (written_says (answer_of (numbers_text numbers.now) out.old)) }
