@@ -2,6 +2,8 @@
 // lent list of records, and an item's value as a part of what holds it. And what the layers above have no use for: an item alone, a packet's
 // record and its plain struct, the least and largest values, numbers of two bytes. It prints a line for each; the gate compares with the file
 // stdout.
+#![tactic(auto)]
+
 mod lent;
 
 use base::{Checked, Written};
@@ -15,26 +17,21 @@ use fields::{
 };
 use heartbeats::{HeartbeatPayload, HeartbeatRead, PathRead};
 use items::{Event, Item, ItemKind, ItemRead};
-use libc::STDOUT_FILENO;
 use links::{DownlinkPayload, DownlinkRead, UplinkPayload, UplinkRead};
 use packets::{MeshPacket, MeshRead};
+use std::io;
 use wire::{Run, be16_bytes, be16_of, part, write_hex};
 
-fn say(text: &[u8]) {
-    io::write_all(STDOUT_FILENO, text);
-}
-
-fn plain(label: &[u8], x: u64) {
-    say(label);
-    io::print_decimal(STDOUT_FILENO, x);
+fn plain(rt: &impl Print, label: &str, x: u64) -> io::Result<()> {
+    print!(rt; "{label}{x}")
 }
 
 // Bytes in hex, 32 of them at most.
-fn hex(label: &[u8], bytes: &[u8]) {
-    say(label);
+fn hex(rt: &impl Print, label: &str, bytes: &[u8]) -> io::Result<()> {
+    print!(rt; "{label}")?;
     let mut text = [0u8; 64];
     write_hex(bytes, &mut text, 0);
-    say(part(&text, 0, 2 * bytes.len()));
+    rt.write_all(part(&text, 0, 2 * bytes.len()))
 }
 
 // ---- the cache, in place: P12's records, and a cache whose size was refused
@@ -47,81 +44,81 @@ fn record(id: u16) -> PayloadCache {
     }
 }
 
-fn answer(a: CacheAnswer) {
+fn answer(rt: &impl Print, a: CacheAnswer) -> io::Result<()> {
     match a {
-        CacheAnswer::New => say(b" yes"),
-        CacheAnswer::Seen => say(b" no"),
-        CacheAnswer::Refused(n) => plain(b" refused ", n as u64),
+        CacheAnswer::New => print!(rt; " yes"),
+        CacheAnswer::Seen => print!(rt; " no"),
+        CacheAnswer::Refused(n) => plain(rt, " refused ", n as u64),
     }
 }
 
-fn add(c: Cache, id: u16) -> Cache {
+fn add(rt: &impl Print, c: Cache, id: u16) -> io::Result<Cache> {
     let told = lent::add_once(c, record(id));
     let a = told.answer;
-    answer(a);
-    told.cache
+    answer(rt, a)?;
+    Ok(told.cache)
 }
 
 // Which of the three records a cache would not take for new, asked of a copy.
-fn holds(label: &[u8], c: Cache) {
-    say(label);
+fn holds(rt: &impl Print, label: &str, c: Cache) -> io::Result<()> {
+    print!(rt; "{label}")?;
     let a = c.added(record(1)).answer;
-    answer(a);
+    answer(rt, a)?;
     let b = c.added(record(2)).answer;
-    answer(b);
+    answer(rt, b)?;
     let d = c.added(record(3)).answer;
-    answer(d);
-    say(b"\n");
+    answer(rt, d)?;
+    println!(rt)
 }
 
-fn p12() {
-    say(b"P12 in place            ");
+fn p12(rt: &impl Print) -> io::Result<()> {
+    print!(rt; "P12 in place            ")?;
     let c0 = Cache::new(2).cache;
-    let c1 = add(c0, 1);
-    let c2 = add(c1, 2);
-    let c3 = add(c2, 1);
-    let c4 = add(c3, 3);
-    let c5 = add(c4, 1);
-    let c6 = add(c5, 2);
-    say(b"\n");
-    holds(b"new after A B           ", c2);
-    holds(b"new after A B A         ", c3);
-    holds(b"new after A B A C       ", c4);
-    holds(b"new after A B A C A B   ", c6);
+    let c1 = add(rt, c0, 1)?;
+    let c2 = add(rt, c1, 2)?;
+    let c3 = add(rt, c2, 1)?;
+    let c4 = add(rt, c3, 3)?;
+    let c5 = add(rt, c4, 1)?;
+    let c6 = add(rt, c5, 2)?;
+    println!(rt)?;
+    holds(rt, "new after A B           ", c2)?;
+    holds(rt, "new after A B A         ", c3)?;
+    holds(rt, "new after A B A C       ", c4)?;
+    holds(rt, "new after A B A C A B   ", c6)
 }
 
 // The same in the words that C lends, by records.
-fn p12_in_words() {
-    say(b"P12 in words            ");
+fn p12_in_words(rt: &impl Print) -> io::Result<()> {
+    print!(rt; "P12 in words            ")?;
     let mut words: Words = [0; 195];
     match cache_words::clear(&mut words, 2) {
         Checked::Accepted => {}
-        Checked::Refused(n) => plain(b" refused ", n as u64),
+        Checked::Refused(n) => plain(rt, " refused ", n as u64)?,
     }
-    answer(cache_words::add(&mut words, record(1)));
-    answer(cache_words::add(&mut words, record(2)));
-    answer(cache_words::add(&mut words, record(1)));
-    answer(cache_words::add(&mut words, record(3)));
-    answer(cache_words::add(&mut words, record(1)));
-    answer(cache_words::add(&mut words, record(2)));
-    say(b"\n");
+    answer(rt, cache_words::add(&mut words, record(1)))?;
+    answer(rt, cache_words::add(&mut words, record(2)))?;
+    answer(rt, cache_words::add(&mut words, record(1)))?;
+    answer(rt, cache_words::add(&mut words, record(3)))?;
+    answer(rt, cache_words::add(&mut words, record(1)))?;
+    answer(rt, cache_words::add(&mut words, record(2)))?;
+    println!(rt)
 }
 
-fn refused_size(label: &[u8], size: usize) {
-    say(label);
+fn refused_size(rt: &impl Print, label: &str, size: usize) -> io::Result<()> {
+    print!(rt; "{label}")?;
     let made = Cache::new(size);
     let told = made.answer;
     match told {
-        Checked::Accepted => say(b" accepted"),
-        Checked::Refused(n) => plain(b" refused ", n as u64),
+        Checked::Accepted => print!(rt; " accepted")?,
+        Checked::Refused(n) => plain(rt, " refused ", n as u64)?,
     }
-    let c = add(made.cache, 1);
-    holds(b"", c);
+    let c = add(rt, made.cache, 1)?;
+    holds(rt, "", c)
 }
 
 // ---- a heartbeat's path, in a list of records; each record is printed as its six bytes
-fn entry(p: RelayPath) {
-    hex(b" ", &p.to_bytes().bytes);
+fn entry(rt: &impl Print, p: RelayPath) -> io::Result<()> {
+    hex(rt, " ", &p.to_bytes().bytes)
 }
 
 fn unused() -> RelayPath {
@@ -133,67 +130,68 @@ fn unused() -> RelayPath {
     }
 }
 
-fn reads(label: &[u8], b: &[u8]) -> [RelayPath; 3] {
-    say(label);
+fn reads(rt: &impl Print, label: &str, b: &[u8]) -> io::Result<[RelayPath; 3]> {
+    print!(rt; "{label}")?;
     let none = unused();
     let read = lent::read_three(b, [none; 3]);
     let answer = read.answer;
     match answer {
-        HeartbeatRead::Heartbeat(h) => plain(b"entries ", h.entries as u64),
-        HeartbeatRead::Refused(n) => plain(b"refused ", n as u64),
+        HeartbeatRead::Heartbeat(h) => plain(rt, "entries ", h.entries as u64)?,
+        HeartbeatRead::Refused(n) => plain(rt, "refused ", n as u64)?,
     }
     let list = read.list;
-    entry(list[0]);
-    entry(list[1]);
-    entry(list[2]);
-    say(b"\n");
-    list
+    entry(rt, list[0])?;
+    entry(rt, list[1])?;
+    entry(rt, list[2])?;
+    println!(rt)?;
+    Ok(list)
 }
 
 // One entry of a value, without a list.
-fn one(label: &[u8], b: &[u8], i: usize) {
-    say(label);
+fn one(rt: &impl Print, label: &str, b: &[u8], i: usize) -> io::Result<()> {
+    print!(rt; "{label}")?;
     match HeartbeatPayload::entry(b, i) {
-        PathRead::Entry(p) => entry(p),
-        PathRead::Refused(n) => plain(b" refused ", n as u64),
+        PathRead::Entry(p) => entry(rt, p)?,
+        PathRead::Refused(n) => plain(rt, " refused ", n as u64)?,
     }
-    say(b"\n");
+    println!(rt)
 }
 
-fn entries() {
+fn entries(rt: &impl Print) -> io::Result<()> {
     let two = b"\x0a\x0b\x0c\x0d\x50\xc7\x01\x02\x03\x04\xff\x20";
-    one(b"entry 1 of 12 bytes     ", two, 1);
-    one(b"entry 2 of 12 bytes     ", two, 2);
-    one(b"entry 0 of 5 bytes      ", &[1u8; 5], 0);
-    one(b"entry 0 of 7 bytes      ", &[1u8; 7], 0);
-    one(b"entry 1 of 7 bytes      ", &[1u8; 7], 1);
-    one(b"entry 49 of 300 bytes   ", &[1u8; 300], 49);
+    one(rt, "entry 1 of 12 bytes     ", two, 1)?;
+    one(rt, "entry 2 of 12 bytes     ", two, 2)?;
+    one(rt, "entry 0 of 5 bytes      ", &[1u8; 5], 0)?;
+    one(rt, "entry 0 of 7 bytes      ", &[1u8; 7], 0)?;
+    one(rt, "entry 1 of 7 bytes      ", &[1u8; 7], 1)?;
+    one(rt, "entry 49 of 300 bytes   ", &[1u8; 300], 49)
 }
 
-fn writes(label: &[u8], list: [RelayPath; 2], out: &mut [u8]) {
-    say(label);
+fn writes(rt: &impl Print, label: &str, list: [RelayPath; 2], out: &mut [u8]) -> io::Result<()> {
+    print!(rt; "{label}")?;
     match lent::write_two(list, out) {
-        Written::Bytes(n) => plain(b"bytes ", n as u64),
-        Written::Refused(n) => plain(b"refused ", n as u64),
+        Written::Bytes(n) => plain(rt, "bytes ", n as u64)?,
+        Written::Refused(n) => plain(rt, "refused ", n as u64)?,
     }
-    hex(b" ", out);
-    say(b"\n");
+    hex(rt, " ", out)?;
+    println!(rt)
 }
 
-fn paths() {
+fn paths(rt: &impl Print) -> io::Result<()> {
     let two = reads(
-        b"path of 12 bytes         ",
+        rt,
+        "path of 12 bytes         ",
         b"\x0a\x0b\x0c\x0d\x50\xc7\x01\x02\x03\x04\xff\x20",
-    );
-    reads(b"path of 0 bytes          ", b"");
-    reads(b"path of 7 bytes          ", &[1u8; 7]);
-    reads(b"path of 24 bytes         ", &[1u8; 24]);
-    reads(b"path of 256 bytes        ", &[1u8; 256]);
-    reads(b"path of 258 bytes        ", &[1u8; 258]);
+    )?;
+    reads(rt, "path of 0 bytes          ", b"")?;
+    reads(rt, "path of 7 bytes          ", &[1u8; 7])?;
+    reads(rt, "path of 24 bytes         ", &[1u8; 24])?;
+    reads(rt, "path of 256 bytes        ", &[1u8; 256])?;
+    reads(rt, "path of 258 bytes        ", &[1u8; 258])?;
     let list = [two[0], two[1]];
-    writes(b"written into 14 bytes    ", list, &mut [0xeeu8; 14]);
-    writes(b"written into 12 bytes    ", list, &mut [0xeeu8; 12]);
-    writes(b"written into 11 bytes    ", list, &mut [0xeeu8; 11]);
+    writes(rt, "written into 14 bytes    ", list, &mut [0xeeu8; 14])?;
+    writes(rt, "written into 12 bytes    ", list, &mut [0xeeu8; 12])?;
+    writes(rt, "written into 11 bytes    ", list, &mut [0xeeu8; 11])?;
     let loud = RelayPath {
         relay_id: 1,
         rssi: 1,
@@ -201,31 +199,45 @@ fn paths() {
         odd: 0,
     };
     writes(
-        b"with an rssi of 1        ",
+        rt,
+        "with an rssi of 1        ",
         [two[0], loud],
         &mut [0xeeu8; 12],
-    );
+    )
 }
 
 // ---- an item's value
-fn value<'a>(label: &[u8], content: Content, item: Item, frame: &'a [u8], work: &'a [u8]) {
+fn value<'a>(
+    rt: &impl Print,
+    label: &str,
+    content: Content,
+    item: Item,
+    frame: &'a [u8],
+    work: &'a [u8],
+) -> io::Result<()> {
     let mut refused = 0u8;
-    hex(label, content.value(item, frame, work, &mut refused));
+    hex(rt, label, content.value(item, frame, work, &mut refused))?;
     if refused != 0 {
-        plain(b"refused ", refused as u64);
+        plain(rt, "refused ", refused as u64)?;
     }
-    say(b"\n");
+    println!(rt)
 }
 
 // The first item of a content's payload.
-fn first<'a>(label: &[u8], content: Content, frame: &'a [u8], work: &'a [u8]) {
+fn first<'a>(
+    rt: &impl Print,
+    label: &str,
+    content: Content,
+    frame: &'a [u8],
+    work: &'a [u8],
+) -> io::Result<()> {
     match Event::decode(content.payload(frame, work), 0) {
-        ItemRead::Kept { item, next: _ } => value(label, content, item, frame, work),
-        _ => say(b"no item\n"),
+        ItemRead::Kept { item, next: _ } => value(rt, label, content, item, frame, work),
+        _ => println!(rt; "no item"),
     }
 }
 
-fn values() {
+fn values(rt: &impl Print) -> io::Result<()> {
     let frame = b"\xee\x01\x02\xaa\xbb\xee";
     let work = b"\x05\x03\x01\x02\x03";
     let in_frame = Content::Open {
@@ -236,165 +248,180 @@ fn values() {
         held: Held::Work,
         run: Run { start: 0, len: 5 },
     };
-    first(b"value in the frame       ", in_frame, frame, work);
-    first(b"value in the work buffer ", in_work, frame, work);
+    first(rt, "value in the frame       ", in_frame, frame, work)?;
+    first(rt, "value in the work buffer ", in_work, frame, work)?;
     let longer = Item {
         kind: ItemKind::Proprietary,
         tag: 1,
         value: Run { start: 2, len: 3 },
     };
-    value(b"value past the payload   ", in_frame, longer, frame, work);
-    value(b"value of another payload ", in_work, longer, frame, work);
+    value(
+        rt,
+        "value past the payload   ",
+        in_frame,
+        longer,
+        frame,
+        work,
+    )?;
+    value(
+        rt,
+        "value of another payload ",
+        in_work,
+        longer,
+        frame,
+        work,
+    )?;
     let sealed = Item::sealed(Run { start: 2, len: 3 });
-    plain(b"a sealed run's type      ", sealed.get_type() as u64);
-    value(b", value ", in_work, sealed, frame, work);
+    plain(rt, "a sealed run's type      ", sealed.get_type() as u64)?;
+    value(rt, ", value ", in_work, sealed, frame, work)
 }
 
 // ---- an item alone, as it is written in an event and in a command
-fn made(w: Written, out: &[u8]) {
+fn made(rt: &impl Print, w: Written, out: &[u8]) -> io::Result<()> {
     match w {
-        Written::Bytes(n) => hex(b"", part(out, 0, n)),
-        Written::Refused(n) => plain(b"refused ", n as u64),
+        Written::Bytes(n) => hex(rt, "", part(out, 0, n)),
+        Written::Refused(n) => plain(rt, "refused ", n as u64),
     }
 }
 
-fn encoded(label: &[u8], item: Item, payload: &[u8]) {
+fn encoded(rt: &impl Print, label: &str, item: Item, payload: &[u8]) -> io::Result<()> {
     let mut out = [0u8; 16];
-    say(label);
+    print!(rt; "{label}")?;
     let event = encode_event(item, payload, &mut out);
-    made(event, &out);
-    say(b", in a command ");
+    made(rt, event, &out)?;
+    print!(rt; ", in a command ")?;
     let command = encode_command(item, payload, &mut out);
-    made(command, &out);
-    say(b"\n");
+    made(rt, command, &out)?;
+    println!(rt)
 }
 
-fn encoded_at(label: &[u8], payload: &[u8], at: usize) {
+fn encoded_at(rt: &impl Print, label: &str, payload: &[u8], at: usize) -> io::Result<()> {
     match Event::decode(payload, at) {
-        ItemRead::Kept { item, next: _ } => encoded(label, item, payload),
-        _ => say(b"no item\n"),
+        ItemRead::Kept { item, next: _ } => encoded(rt, label, item, payload),
+        _ => println!(rt; "no item"),
     }
 }
 
-fn encodings() {
+fn encodings(rt: &impl Print) -> io::Result<()> {
     let payload = b"\x00\x06\x0a\x0b\x0c\x0d\x50\xc7\x01\x02\xaa\xbb";
-    encoded_at(b"a heartbeat encoded      ", payload, 0);
-    encoded_at(b"another item encoded     ", payload, 8);
+    encoded_at(rt, "a heartbeat encoded      ", payload, 0)?;
+    encoded_at(rt, "another item encoded     ", payload, 8)?;
     let run = Item::sealed(Run { start: 10, len: 2 });
-    encoded(b"a sealed run encoded     ", run, payload);
+    encoded(rt, "a sealed run encoded     ", run, payload)?;
     let past = Item::sealed(Run { start: 10, len: 3 });
-    encoded(b"one past the payload     ", past, payload);
+    encoded(rt, "one past the payload     ", past, payload)
 }
 
 // ---- a packet's record, and a packet as a plain struct
-fn known(label: &[u8], r: PayloadCache) {
+fn known(rt: &impl Print, label: &str, r: PayloadCache) -> io::Result<()> {
     let p_type = r.p_type;
-    say(label);
-    plain(b"type ", p_type.to_byte() as u64);
-    plain(b", id ", r.uplink_id as u64);
-    plain(b", time ", r.timestamp as u64);
-    plain(b", relay ", r.relay_id as u64);
-    say(b"\n");
+    print!(rt; "{label}")?;
+    plain(rt, "type ", p_type.to_byte() as u64)?;
+    plain(rt, ", id ", r.uplink_id as u64)?;
+    plain(rt, ", time ", r.timestamp as u64)?;
+    plain(rt, ", relay ", r.relay_id as u64)?;
+    println!(rt)
 }
 
-fn recorded(label: &[u8], frame: &[u8]) {
+fn recorded(rt: &impl Print, label: &str, frame: &[u8]) -> io::Result<()> {
     match MeshPacket::from_slice(frame) {
-        MeshRead::Mesh(p) => known(label, PayloadCache::from_packet(p)),
-        MeshRead::Refused(n) => plain(label, n as u64),
+        MeshRead::Mesh(p) => known(rt, label, PayloadCache::from_packet(p)),
+        MeshRead::Refused(n) => plain(rt, label, n as u64),
     }
 }
 
 // A body alone: its relay id.
-fn bodies() {
+fn bodies(rt: &impl Print) -> io::Result<()> {
     let meta = b"\x12\x35\x50\x07\x02\x0a\x0b\x0c\x0d\x40";
     match UplinkPayload::from_slice(meta) {
-        UplinkRead::Payload(p) => plain(b"relay id of an uplink    ", p.relay_id as u64),
-        UplinkRead::Refused(n) => plain(b"refused                  ", n as u64),
+        UplinkRead::Payload(p) => plain(rt, "relay id of an uplink    ", p.relay_id as u64)?,
+        UplinkRead::Refused(n) => plain(rt, "refused                  ", n as u64)?,
     }
-    say(b"\n");
+    println!(rt)?;
     match DownlinkPayload::from_slice(meta) {
-        DownlinkRead::Payload(p) => plain(b"relay id of a downlink   ", p.relay_id as u64),
-        DownlinkRead::Refused(n) => plain(b"refused                  ", n as u64),
+        DownlinkRead::Payload(p) => plain(rt, "relay id of a downlink   ", p.relay_id as u64)?,
+        DownlinkRead::Refused(n) => plain(rt, "refused                  ", n as u64)?,
     }
-    say(b"\n");
+    println!(rt)?;
     let stamped = b"\x00\x00\x00\x3c\x0a\x0b\x0c";
     match EventPayload::from_slice(stamped) {
-        EventRead::Payload(p) => plain(b"relay id of an event     ", p.relay_id as u64),
-        EventRead::Refused(n) => plain(b"an event of seven bytes  ", n as u64),
+        EventRead::Payload(p) => plain(rt, "relay id of an event     ", p.relay_id as u64)?,
+        EventRead::Refused(n) => plain(rt, "an event of seven bytes  ", n as u64)?,
     }
-    say(b"\n");
+    println!(rt)?;
     match CommandPayload::from_slice(stamped) {
-        CommandRead::Payload(p) => plain(b"relay id of a command    ", p.relay_id as u64),
-        CommandRead::Refused(n) => plain(b"a command of seven bytes ", n as u64),
+        CommandRead::Payload(p) => plain(rt, "relay id of a command    ", p.relay_id as u64)?,
+        CommandRead::Refused(n) => plain(rt, "a command of seven bytes ", n as u64)?,
     }
-    say(b"\n");
+    println!(rt)
 }
 
-fn packets() {
+fn packets(rt: &impl Print) -> io::Result<()> {
     recorded(
-        b"record of an uplink      ",
+        rt,
+        "record of an uplink      ",
         b"\xe0\x12\x35\x50\x07\x02\x0a\x0b\x0c\x0d\x40\x00\x00\x01\x02",
-    );
+    )?;
     recorded(
-        b"record of an event       ",
+        rt,
+        "record of an event       ",
         b"\xf0\x00\x00\x00\x3c\x0a\x0b\x0c\x0d\x00\x00\x01\x02",
-    );
+    )?;
     // of the type's bits two count
     known(
-        b"record of three words    ",
+        rt,
+        "record of three words    ",
         PayloadCache::unpack([0x00070fff, 60, 0x0a0b0c0d]),
-    );
+    )
 }
 
 // ---- the least and the largest value of a field, and numbers of two bytes
-fn range(label: &[u8], least: u64, most: u64) {
-    plain(label, least);
-    plain(b" to ", most);
-    say(b"\n");
+fn range(rt: &impl Print, label: &str, least: u64, most: u64) -> io::Result<()> {
+    println!(rt; "{label}{least} to {most}")
 }
 
-fn words() {
+fn words(rt: &impl Print) -> io::Result<()> {
     let r = RelayId::limits();
-    range(b"relay id                 ", r[0] as u64, r[1] as u64);
+    range(rt, "relay id                 ", r[0] as u64, r[1] as u64)?;
     let t = Timestamp::limits();
-    range(b"timestamp                ", t[0] as u64, t[1] as u64);
+    range(rt, "timestamp                ", t[0] as u64, t[1] as u64)?;
     let m = Mic::limits();
-    range(b"mic                      ", m[0] as u64, m[1] as u64);
+    range(rt, "mic                      ", m[0] as u64, m[1] as u64)
 }
 
-fn limits() {
+fn limits(rt: &impl Print) -> io::Result<()> {
     let t = PayloadType::limits();
-    range(b"payload type             ", t[0] as u64, t[1] as u64);
+    range(rt, "payload type             ", t[0] as u64, t[1] as u64)?;
     let u = UplinkId::limits();
-    range(b"uplink id                ", u[0] as u64, u[1] as u64);
+    range(rt, "uplink id                ", u[0] as u64, u[1] as u64)?;
     let d = Dr::limits();
-    range(b"dr                       ", d[0] as u64, d[1] as u64);
+    range(rt, "dr                       ", d[0] as u64, d[1] as u64)?;
     let c = Channel::limits();
-    range(b"channel                  ", c[0] as u64, c[1] as u64);
+    range(rt, "channel                  ", c[0] as u64, c[1] as u64)?;
     let p = TxPower::limits();
-    range(b"tx power                 ", p[0] as u64, p[1] as u64);
+    range(rt, "tx power                 ", p[0] as u64, p[1] as u64)?;
     let f = Frequency::limits();
-    range(b"frequency                ", f[0] as u64, f[1] as u64);
-    words();
+    range(rt, "frequency                ", f[0] as u64, f[1] as u64)?;
+    words(rt)
 }
 
-fn two_bytes() {
-    plain(b"0f a1                    ", be16_of(0x0f, 0xa1) as u64);
-    hex(b", and back ", &be16_bytes(4001));
-    say(b"\n");
+fn two_bytes(rt: &impl Print) -> io::Result<()> {
+    plain(rt, "0f a1                    ", be16_of(0x0f, 0xa1) as u64)?;
+    hex(rt, ", and back ", &be16_bytes(4001))?;
+    println!(rt)
 }
 
-fn main() {
-    p12();
-    p12_in_words();
-    refused_size(b"cache of 0              ", 0);
-    refused_size(b"cache of 65             ", 65);
-    paths();
-    entries();
-    values();
-    encodings();
-    packets();
-    bodies();
-    limits();
-    two_bytes();
+fn main(rt: HostRuntime) -> io::Result<()> {
+    p12(&rt)?;
+    p12_in_words(&rt)?;
+    refused_size(&rt, "cache of 0              ", 0)?;
+    refused_size(&rt, "cache of 65             ", 65)?;
+    paths(&rt)?;
+    entries(&rt)?;
+    values(&rt)?;
+    encodings(&rt)?;
+    packets(&rt)?;
+    bodies(&rt)?;
+    limits(&rt)?;
+    two_bytes(&rt)
 }
