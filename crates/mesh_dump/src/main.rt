@@ -1,12 +1,15 @@
 // mesh-dump: the dump of frames in hex, one a line, from standard input to standard output. No contract can speak of what is read and
 // written; what is printed for an input is `printed` in specs/Output.antt, and each bufferful is proved to be the next part of it.
+#![tactic(auto)]
+
 ghost use Rattle.std.specs.Prelude.{◌≡◌, ◌+◌, ◌<◌, ◌≤◌, length, drop};
 ghost use Rattle.wire.specs.Lay.{put};
 ghost use Rattle.mesh_dump.specs.Output.{first_line, line_out, dump_of, left_of, Filling};
 
 use base::Written;
 use dump::dump_line;
-use libc::{STDERR_FILENO, STDIN_FILENO, STDOUT_FILENO};
+use std::io::{self, Read, Write};
+use std::process::ExitCode;
 use wire::{part, put_all};
 
 // The most bytes of input.
@@ -84,55 +87,60 @@ fn fill(input: &[u8], from: usize, out: &mut [u8]) -> Filled
     fill_lines(input, from, out)
 }
 
-// All that is printed, a bufferful at a time, and whether it could be written.
-fn print(input: &[u8]) -> bool {
+// All that is printed, a bufferful at a time.
+fn print<W: Write>(input: &[u8], to: &mut W) -> io::Result<()> {
     let mut out = [0u8; 16384];
     let mut next: usize = 0;
     while next < input.len() {
         let filled = fill(input, next, &mut out);
-        if !io::write_all(STDOUT_FILENO, part(&out, 0, filled.len)) {
-            return false;
-        }
+        to.write_all(part(&out, 0, filled.len))?;
         next = filled.next;
     }
-    true
+    Ok(())
 }
 
-#[derive(Clone, Copy)]
-enum Input {
-    Bytes(usize),
-    Failed,
-}
-
-// Reads until the buffer is full or the input ends. A pipe or a terminal hands over a piece at a time.
-fn read_input(buf: &mut [u8]) -> Input {
+// Reads until the buffer is full or the input ends, and answers how much was read. A pipe or a terminal hands over a piece at a time.
+fn read_input<R: Read>(from: &mut R, buf: &mut [u8]) -> io::Result<usize> {
     let mut n: usize = 0;
     while n < buf.len() {
-        let got = libc::read(STDIN_FILENO, &mut buf[n..]);
-        if got < 0 {
-            return Input::Failed;
-        }
-        let more = io::count(got, &buf[n..]);
+        let more = from.read(&mut buf[n..])?;
         if more == 0 {
-            return Input::Bytes(n);
+            return Ok(n);
         }
         n += more;
     }
-    Input::Bytes(n)
+    Ok(n)
 }
 
-// One byte more than is dumped tells that the input is too long. A program has no exit status of its own to give; `mesh-dump` at the root,
-// which runs this one, gives 1 where anything stands on standard error.
-fn main() {
+#[derive(Clone, Copy)]
+enum Failed {
+    Input,
+    Output,
+}
+
+// One byte more than is dumped tells that the input is too long.
+fn run<R: Read, W: Write>(from: &mut R, to: &mut W) -> Result<(), Failed> {
     let mut input = [0u8; MOST + 1];
-    match read_input(&mut input) {
-        Input::Bytes(n) => {
-            if !print(part(&input, 0, n)) {
-                io::write_all(STDERR_FILENO, b"the output cannot be written\n");
-            }
+    match read_input(from, &mut input) {
+        Ok(n) => match print(part(&input, 0, n), to) {
+            Ok(()) => Ok(()),
+            Err(_) => Err(Failed::Output),
+        },
+        Err(_) => Err(Failed::Input),
+    }
+}
+
+// What could not be read or written is said on standard error, and the status is 1 then.
+fn main(rt: HostRuntime) -> ExitCode {
+    match run(&mut rt.stdin(), &mut rt.stdout()) {
+        Ok(()) => ExitCode::SUCCESS,
+        Err(Failed::Input) => {
+            let _ = eprintln!(rt; "the input cannot be read");
+            ExitCode::FAILURE
         }
-        Input::Failed => {
-            io::write_all(STDERR_FILENO, b"the input cannot be read\n");
+        Err(Failed::Output) => {
+            let _ = eprintln!(rt; "the output cannot be written");
+            ExitCode::FAILURE
         }
     }
 }
