@@ -1,10 +1,12 @@
-// mesh-dump: the dump of frames in hex, one a line, from standard input to standard output. No contract can speak of what is read and
-// written; what is printed for an input is `printed` in specs/Output.antt, and each bufferful is proved to be the next part of it.
+// mesh-dump: the dump of frames in hex, one a line, from standard input to standard output. What is printed for an input is `printed` in
+// specs/Output.antt: `run` writes that for all that it reads, from any reader to any writer whose bytes a contract can name. What the
+// standard streams give and take no contract can say.
 #![tactic(auto)]
 
-ghost use Rattle.std.specs.Prelude.{◌≡◌, ◌+◌, ◌<◌, ◌≤◌, length, drop};
+ghost use Rattle.std.specs.Prelude.{◌≡◌, ◌+◌, ◌<◌, ◌≤◌, length, take, drop, IfOk, OnOk, IfSome};
+ghost use Rattle.std.specs.Io.KnownBytes.{Appends, Consumes, IsAtEnd};
 ghost use Rattle.wire.specs.Lay.{put};
-ghost use Rattle.mesh_dump.specs.Output.{first_line, line_out, dump_of, left_of, Filling};
+ghost use Rattle.mesh_dump.specs.Output.{first_line, line_out, dump_of, left_of, printed, Filling};
 
 use base::Written;
 use dump::dump_line;
@@ -14,6 +16,9 @@ use wire::{part, put_all};
 
 // The most bytes of input.
 const MOST: usize = 65536;
+
+// What ends a line of the input.
+const NEWLINE: u8 = b'\n';
 
 // A line's text, at most 90 bytes, and its newline.
 const LINE: usize = 91;
@@ -25,7 +30,7 @@ fn line_end(input: &[u8], from: usize) -> usize
 {
     let mut i = from;
     while i < input.len() {
-        if input[i] == b'\n' {
+        if input[i] == NEWLINE {
             return i;
         }
         i += 1;
@@ -88,7 +93,9 @@ fn fill(input: &[u8], from: usize, out: &mut [u8]) -> Filled
 }
 
 // All that is printed, a bufferful at a time.
-fn print<W: Write>(input: &[u8], to: &mut W) -> io::Result<()> {
+fn print<W: Write>(input: &[u8], to: &mut W) -> io::Result<()>
+    ensures { OnOk result (Appends (W.contents to.old) (W.contents to.new) (printed input.now)) }
+{
     let mut out = [0u8; 16384];
     let mut next: usize = 0;
     while next < input.len() {
@@ -100,7 +107,11 @@ fn print<W: Write>(input: &[u8], to: &mut W) -> io::Result<()> {
 }
 
 // Reads until the buffer is full or the input ends, and answers how much was read. A pipe or a terminal hands over a piece at a time.
-fn read_input<R: Read>(from: &mut R, buf: &mut [u8]) -> io::Result<usize> {
+fn read_input<R: Read>(from: &mut R, buf: &mut [u8]) -> io::Result<usize>
+    ensures bound { IfOk result (λ n. n ≤ length buf.new) }
+    ensures bytes { IfOk result (λ n. Consumes (R.remaining from.old) (R.remaining from.new) (take n buf.new)) }
+    ensures end { IfOk result (λ n. n < length buf.new → IsAtEnd (R.remaining from.new)) }
+{
     let mut n: usize = 0;
     while n < buf.len() {
         let more = from.read(&mut buf[n..])?;
@@ -119,7 +130,10 @@ enum Failed {
 }
 
 // One byte more than is dumped tells that the input is too long.
-fn run<R: Read, W: Write>(from: &mut R, to: &mut W) -> Result<(), Failed> {
+fn run<R: Read, W: Write>(from: &mut R, to: &mut W) -> Result<(), Failed>
+    ensures { OnOk result
+        (IfSome (R.remaining from.old) (λ s. Appends (W.contents to.old) (W.contents to.new) (printed s))) }
+{
     let mut input = [0u8; MOST + 1];
     match read_input(from, &mut input) {
         Ok(n) => match print(part(&input, 0, n), to) {
