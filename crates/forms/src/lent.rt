@@ -1,5 +1,4 @@
-// What lends a record or a list of records, by value around it. A function that makes such a reference is not covered by the prover's own
-// walk of the code, so each of these is one call.
+// What lends a record or a list of records, by value around it: each is one call.
 ghost use Rattle.std.specs.Prelude.{◌≡◌};
 ghost use Rattle.base.specs.Answers.{answer_of, out_of};
 ghost use Rattle.cache.specs.inner.Ring.{added_of};
