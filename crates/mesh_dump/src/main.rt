@@ -3,14 +3,15 @@
 // standard streams give and take no contract can say.
 #![tactic(auto)]
 
-ghost use Rattle.std.specs.Prelude.{◌≡◌, ◌+◌, ◌<◌, ◌≤◌, length, take, drop, IfOk, OnOk, IfSome};
+ghost use Rattle.std.specs.Prelude.{◌≡◌, ◌+◌, ◌<◌, ◌≤◌, length, take, drop, IfOk, IfErr, OnOk, IfSome};
 ghost use Rattle.std.specs.Io.KnownBytes.{Appends, Consumes, IsAtEnd};
 ghost use Rattle.wire.specs.Lay.{put};
+ghost use Rattle.mesh_dump.specs.declared.Failed.TheVariants.{Input};
 ghost use Rattle.mesh_dump.specs.Output.{first_line, line_out, dump_of, left_of, printed, Filling};
 
 use base::Written;
 use dump::dump_line;
-use std::io::{self, Read, Write};
+use std::io::{self, ErrorKind, Read, Write};
 use std::process::ExitCode;
 use wire::{part, put_all};
 
@@ -123,28 +124,33 @@ fn read_input<R: Read>(from: &mut R, buf: &mut [u8]) -> io::Result<usize>
     Ok(n)
 }
 
+// What could not be done. Where nobody reads the output any more there is nobody to tell.
 #[derive(Clone, Copy)]
 enum Failed {
     Input,
     Output,
+    Unread,
 }
 
-// One byte more than is dumped tells that the input is too long.
+// One byte more than is dumped tells that the input is too long. Nothing is written where the input cannot be read.
 fn run<R: Read, W: Write>(from: &mut R, to: &mut W) -> Result<(), Failed>
-    ensures { OnOk result
+    ensures all { OnOk result
         (IfSome (R.remaining from.old) (λ s. Appends (W.contents to.old) (W.contents to.new) (printed s))) }
+    ensures none { IfErr result (λ e. e ≡ Input → to.new ≡ to.old) }
 {
     let mut input = [0u8; MOST + 1];
     match read_input(from, &mut input) {
         Ok(n) => match print(part(&input, 0, n), to) {
             Ok(()) => Ok(()),
+            Err(e) if e.kind() == ErrorKind::BrokenPipe => Err(Failed::Unread),
             Err(_) => Err(Failed::Output),
         },
         Err(_) => Err(Failed::Input),
     }
 }
 
-// What could not be read or written is said on standard error, and the status is 1 then.
+// What could not be read or written is said on standard error, and the status is 1 then. It is 141 where nobody reads the output, as a shell
+// has it of a program that is ended by that.
 fn main(rt: HostRuntime) -> ExitCode {
     match run(&mut rt.stdin(), &mut rt.stdout()) {
         Ok(()) => ExitCode::SUCCESS,
@@ -156,5 +162,6 @@ fn main(rt: HostRuntime) -> ExitCode {
             let _ = eprintln!(rt; "the output cannot be written");
             ExitCode::FAILURE
         }
+        Err(Failed::Unread) => ExitCode::from(141),
     }
 }
