@@ -1,5 +1,7 @@
 // What every layer shares: the refusal numbers and the limits, each named here and nowhere else, and what a call into a
 // lent buffer answers.
+#![tactic(auto)]
+
 ghost use Rattle.std.specs.Prelude.{◌≡◌, min};
 
 // The refusal numbers, section 3 of docs/RULES.md. A refusal is passed up unchanged.

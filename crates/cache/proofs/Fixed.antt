@@ -1,8 +1,6 @@
 -- Each public call of this crate has one outcome. Assumes nothing.
 use mathlib.Core.Path.{refl, sym, ap, ◌∙◌}
-use seplogic.Ra.Ura.{Ura}
-use prog.Wp.{Heap}
-use Rattle.base.proofs.Outcome.{Fixed, FixedWalk, all_four}
+use Rattle.base.proofs.Outcome.{Fixed}
 use Rattle.cache.specs.declared.ring.Cache.{Cache}
 use Rattle.cache.proofs.record.PayloadCache.from_packet.Kinds as from_packet_kinds
 use Rattle.cache.proofs.record.PayloadCache.from_packet.Reads as from_packet_reads

@@ -7,15 +7,11 @@ use native.Mathlib.Nat.{min-le_right, mod-lt}
 use native.Mathlib.Numerals.{add-one}
 use native.Mathlib.Omega.{arith}
 use borrow.Author.Tests.{lt-ltb, le-ltb}
-use lib.ListN.{length, take, drop, get_or, set, length-map}
+use lib.ListN.{length, take, drop, get_or, set}
 use lib.Seq.{take-suc, take-add}
-use mir.Val.{Val}
-use denote.Laws.{Is}
 use Rattle.cache.specs.declared.record.PayloadCache.{PayloadCache}
 use Rattle.cache.specs.declared.ring.Cache.{Cache}
 use Rattle.cache.specs.declared.ring.CacheAnswer.TheVariants.{New, Seen}
-use Rattle.cache.specs.contracts.record.PayloadCache as R
-use Rattle.cache.specs.contracts.ring.Cache as T
 use Rattle.cache.specs.Cache.{same_record, has}
 use Rattle.cache.specs.inner.Ring.{ring_count, ring_place, pushed_of, refused_by, added_of}
 

@@ -1,4 +1,6 @@
 // Duplicate records of packets, and the cache of the last of them.
+#![tactic(auto)]
+
 mod record;
 mod ring;
 

@@ -1,4 +1,6 @@
 // The cache of crate `cache` in a lent array of words, in place, for callers that cannot hold its struct. specs/inner/Packed.antt has the layout.
+#![tactic(auto)]
+
 ghost use Rattle.std.specs.Prelude.{◌≡◌, ◌<◌, ◌≤◌, [], ◌∷◌};
 ghost use Rattle.cache_words.specs.inner.Packed.{clear_answer, clear_words, is_below, stored_at, Ready, pushed_words, adds_answer, adds_words, add_answer, add_words};
 

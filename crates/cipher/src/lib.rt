@@ -1,6 +1,8 @@
 // AES-128 (FIPS 197) by columns: a state is four words of 32 bits, the first byte of a column the highest. What a round does to one byte,
 // SubBytes and its part in MixColumns, is one word of a table; a round of a column is four of them, turned and added. The table is laid out
 // once for a key, with the key behind it; one round key is in hand, and the next is worked out from it.
+#![tactic(auto)]
+
 ghost use Rattle.std.specs.Prelude.{◌≡◌, length, get_or};
 ghost use Rattle.cipher.specs.inner.Words.{byte_of, turned, sub, column, last_column, loaded, first_key, next_cols, keyed, stepped, last_stepped, bytes_of, te_table, key_words, prepared, enciphered};
 ghost use Rattle.wire.specs.Lay.{put};

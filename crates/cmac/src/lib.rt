@@ -1,4 +1,6 @@
 // AES-CMAC (RFC 4493), of a whole message or of one that comes in pieces, which may end anywhere.
+#![tactic(auto)]
+
 ghost use Rattle.std.specs.Prelude.{◌≡◌, ◌<◌, length};
 ghost use mathlib.Core.List.{foldl};
 ghost use Rattle.fips197.specs.Aes.{aes};

@@ -1,5 +1,7 @@
 // What CMAC (RFC 4493) does beside its cipher: the doubling that makes subkeys, and bytes added to the block in hand. It calls no cipher, and
 // what is proved of it holds for any.
+#![tactic(auto)]
+
 ghost use Rattle.std.specs.Prelude.{◌≡◌, ◌+◌, ◌*◌, ◌/◌, ◌%◌, take};
 ghost use mathlib.Core.List.{foldl};
 ghost use Rattle.base.specs.Lists.{added};

@@ -7,17 +7,16 @@ use mathlib.Core.Path.{◌≡◌, refl, sym, ap, ap₂, ◌∙◌}
 use mathlib.Core.List.{List, [], ◌∷◌, ◌++◌, map}
 use lib.Dec.{eqb}
 use lib.ListN.{length, get_or, drop, length-map}
-use borrow.Author.Tests.{le-ltb, eqb-true, eqb-false, eq-eqb, ne_eqb}
+use borrow.Author.Tests.{le-ltb, eqb-true}
 use Rattle.base.specs.Pick.{pick}
-use Rattle.base.specs.Lists.{Bytes, from, or_else, first_of, joined}
+use Rattle.base.specs.Lists.{Bytes, from, first_of, joined}
 use Rattle.base.specs.Answers.{bytes}
 use Rattle.base.proofs.Answers.{not_refused}
 use Rattle.wire.specs.Part.{reach_number, part_of}
 use Rattle.wire.specs.Run.{run_refusal}
 use Rattle.wire.proofs.Laws.Part.{inside}
-use Rattle.wire.specs.declared.run.Run.{Run}
 use Rattle.heartbeats.specs.Paths.{paths}
-use Rattle.items.specs.Items.{is_beat, bad_beat, kind_of, kind_code, item_of, item_at, next_of, kept_before, listed_by, listed_items, pieces}
+use Rattle.items.specs.Items.{is_beat, kind_of, kind_code, item_of, item_at, next_of, kept_before, listed_by, listed_items, pieces}
 use Rattle.items.specs.declared.item.Item.{Item}
 use Rattle.items.specs.declared.item.ItemKind.TheVariants.{Heartbeat, Proprietary}
 use Rattle.items.specs.declared.item.ItemRead.{ItemRead}

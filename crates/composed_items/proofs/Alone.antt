@@ -11,7 +11,7 @@ use borrow.Author.Tests.{lt-ltb, le-ltb, lt-leb, eq-eqb, eqb-true, ltb-false}
 use Rattle.base.specs.Pick.{pick}
 use Rattle.base.specs.Numbers.{frame_long, type_large, item_long, heartbeat_length, payload_most, item_most}
 use Rattle.base.specs.Lists.{Bytes, imap, or_else, first_of, joined}
-use Rattle.base.specs.Answers.{Writing, bytes, refused, unless_refused, answer_of, out_of}
+use Rattle.base.specs.Answers.{Writing, bytes, refused, answer_of, out_of}
 use Rattle.base.specs.declared.Written.{Written}
 use Rattle.base.specs.declared.Written.TheVariants.{Bytes as Wrote, Refused}
 use Rattle.base.proofs.Lists.{imap_length}
@@ -23,7 +23,7 @@ use Rattle.wire.specs.Run.{run_at, run_refusal, run_bytes}
 use Rattle.wire.specs.declared.run.Run.{Run}
 use Rattle.wire.proofs.Laws.Lay.{put_front}
 use Rattle.wire.proofs.Laws.Part.{inside, part_length}
-use Rattle.items.specs.Items.{is_beat, bad_beat, kind_of, kind_code, item_of, item_at}
+use Rattle.items.specs.Items.{is_beat, bad_beat, kind_of, kind_code, item_at}
 use Rattle.items.specs.declared.item.Item.{Item}
 use Rattle.items.specs.declared.item.ItemKind.{ItemKind}
 use Rattle.items.specs.declared.item.ItemKind.TheVariants.{Heartbeat, Proprietary}

@@ -1,5 +1,7 @@
 // Items that a caller composes, in lent lists: judged pass by pass over the whole list, measured, and laid into a lent buffer. One alone is in
 // `one`.
+#![tactic(auto)]
+
 ghost use Rattle.std.specs.Prelude.{◌≡◌, [], false as no, min, eqb, ltb, length};
 ghost use Rattle.base.specs.Pick.{pick};
 ghost use Rattle.base.specs.Lists.{first_of, joined};

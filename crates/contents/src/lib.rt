@@ -1,4 +1,6 @@
 // What follows the relay id of an event or a command: nothing, one sealed run, or open items.
+#![tactic(auto)]
+
 mod content;
 mod write;
 

@@ -1,13 +1,13 @@
 -- The frame after an accepted edit: of bytes, read as the packet that was signed without its odd bits, its body as the frame's without them.
 -- Assumes nothing.
-use Prim.Native.Nat.{ℕ, ◌-◌, ◌%◌, ◌≤◌, ◌<◌}
+use Prim.Native.Nat.{ℕ, ◌-◌, ◌≤◌, ◌<◌}
 use native.Mathlib.Omega.{arith}
 use mathlib.Core.Bool.{Bool, true, false}
 use mathlib.Core.Path.{◌≡◌, refl, sym, ap, subst, ◌∙◌}
 use mathlib.Core.List.{List, ◌∷◌}
 use lib.Dec.{eqb}
-use lib.ListN.{length, get_or, take, drop, set, length-append, length-set}
-use lib.Seq.{take_at, length-take-le, get_or-set_same, get_or-set_other, set-set, drop-set-lt}
+use lib.ListN.{length, get_or, take, drop, length-append}
+use lib.Seq.{take_at, length-take-le, get_or-set_same, set-set, drop-set-lt}
 use borrow.Author.Tests.{eq-eqb}
 use Rattle.base.specs.Pick.{pick}
 use Rattle.base.specs.Lists.{Bytes}

@@ -1,4 +1,6 @@
 // One block under a key, and the keys derived from a root key (src/aes128.rs of the Rust).
+#![tactic(auto)]
+
 ghost use Rattle.std.specs.Prelude.{◌≡◌, ◌∷◌, replicate};
 ghost use Rattle.keys.specs.Key.{key_of};
 ghost use Rattle.fips197.specs.Aes.{aes};

@@ -7,7 +7,7 @@ use mathlib.Core.List.{List, [], ◌∷◌, ◌++◌}
 use lib.ListN.{length, length-append}
 use borrow.Author.Tests.{lt-ltb, le-ltb}
 use Rattle.base.specs.Numbers.{frame_long, output_short, mic_missing}
-use Rattle.base.specs.Answers.{Writing, bytes, refused, answer_of, out_of}
+use Rattle.base.specs.Answers.{Writing, bytes, refused}
 use Rattle.base.specs.declared.Written.{Written}
 use Rattle.base.specs.declared.Written.TheVariants.{Bytes, Refused}
 use Rattle.base.proofs.Answers.{room, no_room, is_refused, not_refused}

@@ -1,4 +1,6 @@
 // The fields of a frame: header byte, frequency, rssi and snr, both metadata forms, and the six bytes of a path entry.
+#![tactic(auto)]
+
 mod freq;
 mod header;
 mod meta;

@@ -1,4 +1,6 @@
 // What FIPS 197 gives as numbers: the S-box, and multiplication by x. The cipher's definition is in specs/; `cipher` has the code that meets it.
+#![tactic(auto)]
+
 ghost use Rattle.std.specs.Prelude.{◌≡◌};
 ghost use Rattle.fips197.specs.Field.{xtime};
 ghost use Rattle.fips197.specs.Aes.{sbox_table};

@@ -2,9 +2,7 @@
 use mathlib.Core.Path.{refl, sym, ap, ◌∙◌}
 use mathlib.Core.List.{List}
 use Prim.Native.Nat.{ℕ}
-use seplogic.Ra.Ura.{Ura}
-use prog.Wp.{Heap}
-use Rattle.base.proofs.Outcome.{Fixed, FixedWalk, all_four}
+use Rattle.base.proofs.Outcome.{Fixed}
 use Rattle.fields.specs.declared.path.RelayPath.{RelayPath}
 use Rattle.heartbeats.proofs.heartbeat.HeartbeatPayload.check.Kinds as check_kinds
 use Rattle.heartbeats.proofs.heartbeat.HeartbeatPayload.check.Reads as check_reads

@@ -1,4 +1,6 @@
 // The hop edit, in the received buffer: header byte, an uplink's odd bits and the MIC are rewritten where they stand.
+#![tactic(auto)]
+
 ghost use Rattle.std.specs.Prelude.{◌≡◌, ◌≤◌, length, take};
 ghost use Rattle.base.specs.Answers.{checked_of};
 ghost use Rattle.fips197.specs.Aes.{aes};

@@ -1,4 +1,6 @@
 // The items of a payload, which is what an event or a command says: tag, length, value, one after the other.
+#![tactic(auto)]
+
 mod count;
 mod item;
 

@@ -1,4 +1,6 @@
 // An item laid into a lent buffer, and an open payload as its kept items one after another.
+#![tactic(auto)]
+
 ghost use Rattle.std.specs.Prelude.{◌≡◌, ◌%◌};
 ghost use Rattle.base.specs.Lists.{imap};
 ghost use Rattle.wire.specs.Lay.{put};

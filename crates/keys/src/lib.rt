@@ -1,4 +1,6 @@
 // Keys of AES-128 and their text (src/aes128.rs of the Rust). They stand below any cipher; `derivation` has the keys derived from a root key.
+#![tactic(auto)]
+
 ghost use Rattle.std.specs.Prelude.{◌≡◌};
 ghost use Rattle.base.specs.Answers.{bytes, answer_of, out_of};
 ghost use Rattle.wire.specs.Hex.{hex_text};

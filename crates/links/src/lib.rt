@@ -1,4 +1,6 @@
 // Uplink and downlink bodies, and what every body is written by: read from the part of the frame between header byte and MIC, and written into a lent buffer.
+#![tactic(auto)]
+
 mod downlink;
 mod emit;
 mod uplink;

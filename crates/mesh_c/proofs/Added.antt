@@ -1,8 +1,8 @@
 -- A record of numbers added to a cache in words, a test at a time. Assumes nothing.
-use Prim.Native.Nat.{ℕ, ◌+◌, ◌*◌, ◌%◌, ◌≤◌, ◌<◌}
+use Prim.Native.Nat.{ℕ, ◌%◌, ◌≤◌, ◌<◌}
 use native.Mathlib.Omega.{arith}
 use mathlib.Core.Path.{◌≡◌, refl, sym, ap, ◌∙◌}
-use mathlib.Core.Bool.{Bool, true, false}
+use mathlib.Core.Bool.{true, false}
 use mathlib.Core.List.{List, [], ◌∷◌}
 use lib.ListN.{get_or}
 use borrow.Author.Tests.{lt-ltb, le-ltb}
@@ -16,7 +16,7 @@ use Rattle.fields.specs.declared.header.TypeRead.TheVariants.{Kind, Refused as N
 use Rattle.fields.proofs.Laws.Header.{type_of_two_bits}
 use Rattle.numbers.specs.Numbers.{bit, at_most}
 use Rattle.numbers.proofs.Laws.{no_type}
-use Rattle.cache.specs.Cache.{rec, pack_of, add_says}
+use Rattle.cache.specs.Cache.{pack_of, add_says}
 use Rattle.cache.specs.declared.ring.CacheAnswer.{CacheAnswer}
 use Rattle.cache.specs.declared.ring.CacheAnswer.TheVariants.{Refused}
 use Rattle.cache_words.specs.inner.Packed.{adds_answer, adds_words}

@@ -88,12 +88,7 @@ pub fn mesh_header_write(type_code: u8, hop_count: u8, b: &mut u8) -> u8
 }
 
 // Uplink id, data rate, channel and odd bits; rssi and snr. Every five bytes are read.
-pub fn mesh_uplink_metadata_read(
-    b: &[u8; 5],
-    numbers: &mut [u64; 4],
-    rssi: &mut i16,
-    snr: &mut i8,
-)
+pub fn mesh_uplink_metadata_read(b: &[u8; 5], numbers: &mut [u64; 4], rssi: &mut i16, snr: &mut i8)
     ensures numbers { numbers.new ≡ up_list (up_of b.now) }
     ensures rssi { rssi.new ≡ (up_of b.now).rssi }
     ensures snr { snr.new ≡ (up_of b.now).snr }
@@ -220,13 +215,7 @@ pub fn mesh_frequency_write(hertz: u32, b: &mut [u8; 3]) -> u8
 }
 
 // A path entry: relay id; rssi, snr and odd bits.
-pub fn mesh_path_read(
-    b: &[u8; 6],
-    relay_id: &mut u32,
-    rssi: &mut i16,
-    snr: &mut i8,
-    odd: &mut u8,
-)
+pub fn mesh_path_read(b: &[u8; 6], relay_id: &mut u32, rssi: &mut i16, snr: &mut i8, odd: &mut u8)
     ensures relay_id { relay_id.new ≡ (path_of b.now).relay_id }
     ensures rssi { rssi.new ≡ (path_of b.now).rssi }
     ensures snr { snr.new ≡ (path_of b.now).snr }

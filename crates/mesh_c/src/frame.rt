@@ -31,12 +31,7 @@ use sealing::MeshOpened;
 // ---- reading
 
 // Any frame: 0, or 1, 5, 2, 4 with nothing changed.
-pub fn mesh_read(
-    frame: &[u8],
-    numbers: &mut PacketNumbers,
-    rssi: &mut i16,
-    snr: &mut i8,
-) -> u8
+pub fn mesh_read(frame: &[u8], numbers: &mut PacketNumbers, rssi: &mut i16, snr: &mut i8) -> u8
     ensures answer { result ≡ number_in (packet_says (packet_of frame.now)) }
     ensures numbers { numbers.new ≡ left_by numbers_in numbers.old (packet_says (packet_of frame.now)) }
     ensures rssi { rssi.new ≡ left_by rssi_in rssi.old (packet_says (packet_of frame.now)) }
@@ -46,12 +41,7 @@ pub fn mesh_read(
 }
 
 // A mesh frame: 1, 5, 2, 3, 4.
-pub fn mesh_read_mesh(
-    frame: &[u8],
-    numbers: &mut PacketNumbers,
-    rssi: &mut i16,
-    snr: &mut i8,
-) -> u8
+pub fn mesh_read_mesh(frame: &[u8], numbers: &mut PacketNumbers, rssi: &mut i16, snr: &mut i8) -> u8
     ensures answer { result ≡ number_in (mesh_says (mesh_of frame.now)) }
     ensures numbers { numbers.new ≡ left_by mesh_numbers numbers.old (mesh_says (mesh_of frame.now)) }
     ensures rssi { rssi.new ≡ left_by mesh_rssi rssi.old (mesh_says (mesh_of frame.now)) }

@@ -1,4 +1,6 @@
 // The face for C and Rust: exported functions on numbers and slices, each proved like any other. include/mesh.h declares them.
+#![tactic(auto)]
+
 ghost use Rattle.std.specs.Prelude.{◌≡◌};
 ghost use Rattle.mesh_c.specs.Face.{face_version};
 
@@ -9,12 +11,25 @@ mod key;
 mod record;
 mod text;
 
-pub use field::{mesh_type, mesh_header_read, mesh_header_write, mesh_uplink_metadata_read, mesh_uplink_metadata_write, mesh_downlink_metadata_read, mesh_downlink_metadata_write, mesh_frequency_read, mesh_frequency_write, mesh_path_read, mesh_path_write};
-pub use frame::{mesh_read, mesh_read_mesh, mesh_read_body, mesh_write, mesh_write_body, mesh_sign, mesh_validate, mesh_set_hop_count, mesh_seal, mesh_decrypt, mesh_decode, mesh_record};
-pub use item::{mesh_stream, mesh_count, mesh_item, mesh_item_write, mesh_heartbeat, mesh_heartbeat_entry, mesh_heartbeat_write};
-pub use key::{mesh_key, mesh_key_of_text, mesh_key_text, mesh_null_key, mesh_signing_key, mesh_encryption_key, mesh_encrypt_block, mesh_prepare, mesh_encipher, mesh_cmac, mesh_mac};
-pub use record::{mesh_cache_clear, mesh_cache_add};
-pub use text::{mesh_dump_line, mesh_dump_frame, mesh_text};
+pub use field::{
+    mesh_downlink_metadata_read, mesh_downlink_metadata_write, mesh_frequency_read,
+    mesh_frequency_write, mesh_header_read, mesh_header_write, mesh_path_read, mesh_path_write,
+    mesh_type, mesh_uplink_metadata_read, mesh_uplink_metadata_write,
+};
+pub use frame::{
+    mesh_decode, mesh_decrypt, mesh_read, mesh_read_body, mesh_read_mesh, mesh_record, mesh_seal,
+    mesh_set_hop_count, mesh_sign, mesh_validate, mesh_write, mesh_write_body,
+};
+pub use item::{
+    mesh_count, mesh_heartbeat, mesh_heartbeat_entry, mesh_heartbeat_write, mesh_item,
+    mesh_item_write, mesh_stream,
+};
+pub use key::{
+    mesh_cmac, mesh_encipher, mesh_encrypt_block, mesh_encryption_key, mesh_key, mesh_key_of_text,
+    mesh_key_text, mesh_mac, mesh_null_key, mesh_prepare, mesh_signing_key,
+};
+pub use record::{mesh_cache_add, mesh_cache_clear};
+pub use text::{mesh_dump_frame, mesh_dump_line, mesh_text};
 
 #[derive(Clone, Copy)]
 pub struct Version;

@@ -1,5 +1,7 @@
 // The functions that C and Rust call, each by the name and with the clauses that it has in mesh_c, which does its work. include/mesh.h
 // declares them.
+#![tactic(auto)]
+
 ghost use Rattle.std.specs.Prelude.{◌≡◌};
 ghost use Rattle.mesh_c.specs.Face.{face_version};
 

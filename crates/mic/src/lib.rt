@@ -1,4 +1,6 @@
 // A packet signed and validated. The message goes to CMAC in pieces, as it would be written; nothing of it is laid out.
+#![tactic(auto)]
+
 ghost use Rattle.std.specs.Prelude.{◌≡◌, ◌∷◌, ◌++◌, take};
 ghost use Rattle.base.specs.Answers.{bytes};
 ghost use Rattle.wire.specs.Number.{be_of};

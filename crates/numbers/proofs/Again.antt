@@ -21,12 +21,11 @@ use Rattle.packets.specs.Read.{of_mesh}
 use Rattle.packets.specs.declared.mesh.Payload.{Payload}
 use Rattle.packets.specs.declared.mesh.Payload.TheVariants.{Uplink as AnUplink, Downlink as ADownlink, Event as AnEvent, Command as ACommand}
 use Rattle.packets.specs.declared.mesh.MeshPacket.{MeshPacket}
-use Rattle.packets.specs.declared.mesh.MeshRead.{MeshRead}
 use Rattle.packets.specs.declared.mesh.MeshRead.TheVariants.{Mesh}
 use Rattle.packets.specs.declared.any.Packet.{Packet}
 use Rattle.packets.specs.declared.any.Packet.TheVariants.{Mesh as AMesh, Lora}
 use Rattle.packets.specs.declared.any.PacketRead.TheVariants.{Packet as PacketIs}
-use Rattle.numbers.specs.Numbers.{bit, content_place, payload_rssi, payload_snr, mesh_numbers, mesh_rssi, mesh_snr, numbers_in, rssi_in, snr_in, at_most, too_wide, strange_content, content_from, typed_by, kind_by, mesh_from, packet_from}
+use Rattle.numbers.specs.Numbers.{bit, payload_rssi, payload_snr, mesh_numbers, mesh_rssi, mesh_snr, numbers_in, rssi_in, snr_in, at_most, too_wide, strange_content, content_from, typed_by, kind_by, mesh_from, packet_from}
 use Rattle.numbers.proofs.Laws.{mesh_known, packet_lora, packet_mesh}
 
 -- each number within its field's width

@@ -1,6 +1,8 @@
 // A packet as numbers and, beside them, rssi and snr, for callers from C, where no enum can stand. specs/Numbers.antt has their order.
 // Which of them count goes by the kind and the content; what does not is 0 where a packet is read, and where one is
 // written it is only asked whether it is too wide.
+#![tactic(auto)]
+
 ghost use Rattle.std.specs.Prelude.{◌≡◌};
 ghost use Rattle.numbers.specs.Numbers.{bit};
 

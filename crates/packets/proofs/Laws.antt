@@ -1,11 +1,11 @@
 -- Laws of what is written before the MIC: the kinds of composed items come first, and what has bytes has none that is refused. Assumes
 -- nothing.
 use Prim.Native.Nat.{ℕ}
-use mathlib.Core.Bool.{Bool, true, false}
+use mathlib.Core.Bool.{true, false}
 use mathlib.Core.Path.{◌≡◌, refl, sym, ap₂, ◌∙◌}
 use mathlib.Core.List.{List, []}
 use Rattle.base.specs.Numbers.{type_large}
-use Rattle.base.specs.Answers.{Writing, bytes, refused}
+use Rattle.base.specs.Answers.{bytes, refused}
 use Rattle.base.proofs.Answers.{is_refused, not_refused}
 use Rattle.fields.specs.Header.{header_byte}
 use Rattle.contents.specs.Content.{Lent}

@@ -1,4 +1,6 @@
 // Whole frames: a mesh frame, which is header byte, body and MIC, and any frame, mesh or LoRa.
+#![tactic(auto)]
+
 mod any;
 mod mesh;
 

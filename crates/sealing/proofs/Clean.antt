@@ -25,8 +25,7 @@ use Rattle.contents.specs.declared.content.Held.{Held}
 use Rattle.contents.specs.declared.content.Held.TheVariants.{Frame as InFrame, Work as InWork}
 use Rattle.contents.specs.declared.content.Content.{Content}
 use Rattle.contents.specs.declared.content.Content.TheVariants.{Empty, Sealed, Open}
-use Rattle.sealing.specs.Open.{opened_as, refused_or, seal_wire, opened_by, read_sealed, decrypt_of, work_after, decode_of}
-use Rattle.sealing.specs.declared.content.Opened.{Opened}
+use Rattle.sealing.specs.Open.{opened_as, seal_wire, opened_by, read_sealed, decrypt_of, work_after, decode_of}
 use Rattle.sealing.specs.declared.content.Opened.TheVariants.{Opened as Now, Refused}
 use Rattle.sealing.proofs.Laws.{front, front_inside, front_bytes}
 

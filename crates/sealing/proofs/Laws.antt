@@ -1,6 +1,6 @@
 -- Sealing and opening undo each other: what is sealed, sealed again, is the clear bytes, still marked sealed; and opened it has the items
 -- of the clear bytes. For every length, key and kind, and whatever else is lent. Assumes nothing.
-use Prim.Native.Nat.{ℕ, ◌+◌}
+use Prim.Native.Nat.{ℕ}
 use native.Mathlib.Omega.{arith}
 use mathlib.Core.Bool.{Bool, true, false}
 use mathlib.Core.Path.{◌≡◌, refl, sym, ap, ◌∙◌}
@@ -25,7 +25,7 @@ use Rattle.contents.specs.declared.content.Content.{Content}
 use Rattle.contents.specs.declared.content.Content.TheVariants.{Empty, Sealed}
 use Rattle.events.specs.declared.stamped.EventPayload.{EventPayload}
 use Rattle.events.specs.declared.stamped.CommandPayload.{CommandPayload}
-use Rattle.sealing.specs.Open.{nothing_in, seal_wire, opened_by, decrypt_of}
+use Rattle.sealing.specs.Open.{nothing_in, opened_by, decrypt_of}
 use Rattle.sealing.specs.Seal.{content_seal, event_seal, command_seal}
 use Rattle.sealing.proofs.Steps.{part_front}
 

@@ -1,4 +1,6 @@
 // What lies in a slice: big-endian numbers, a part at a place and length, bytes laid into a lent buffer, and hex text.
+#![tactic(auto)]
+
 mod hex;
 mod lay;
 mod number;

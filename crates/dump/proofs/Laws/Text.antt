@@ -35,7 +35,7 @@ use Rattle.packets.specs.declared.mesh.PayloadRead.TheVariants.{Payload as Paylo
 use Rattle.packets.specs.declared.mesh.MeshRead.{MeshRead}
 use Rattle.packets.specs.declared.mesh.MeshRead.TheVariants as mesh
 use Rattle.packets.specs.declared.mesh.MeshPacket.{MeshPacket}
-use Rattle.packets.specs.declared.any.Packet.TheVariants.{Mesh, Lora}
+use Rattle.packets.specs.declared.any.Packet.TheVariants.{Lora}
 use Rattle.packets.specs.declared.any.PacketRead.{PacketRead}
 use Rattle.packets.specs.declared.any.PacketRead.TheVariants.{Packet as PacketIs, Refused as NoPacket}
 use Rattle.wire.specs.declared.run.Run.{Run}

@@ -6,7 +6,7 @@ use Rattle.wire.specs.Hex.{all_hex, unhex}
 use Rattle.wire.proofs.Laws.Lay.{put_whole}
 use Rattle.wire.proofs.Laws.Hex.{unhex_length}
 use Rattle.keys.specs.Key.{key_read, key_from_text}
-use borrow.Author.Tests.{eq-eqb, ne_eqb, not-true, not-false}
+use borrow.Author.Tests.{eq-eqb, ne_eqb}
 use mathlib.Core.Path.{◌≡◌, sym, ap, ◌∙◌}
 use Rattle.keys.proofs.Aes128Key.from_str.Goals as goal
 

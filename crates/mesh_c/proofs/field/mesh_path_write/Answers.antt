@@ -18,8 +18,8 @@ returns-in-Refused c =
     let a = c.args in
     -- the two signed numbers go through their bits
     let w : c.to_bytes-made.result ≡ path_bytes (record { relay_id = a.relay_id; rssi = a.rssi; snr = a.snr; odd = 0 }) =
-      c.to_bytes-made.ensures
-        ∙ ap₂ (λ (x y : ℤ). path_bytes (record { relay_id = a.relay_id; rssi = x; snr = y; odd = 0 })) (to_z-of_z {w = w16} c.ranges.rssi) (to_z-of_z {w = w8} c.ranges.snr)
+    c.to_bytes-made.ensures
+    ∙ ap₂ (λ (x y : ℤ). path_bytes (record { relay_id = a.relay_id; rssi = x; snr = y; odd = 0 })) (to_z-of_z {w = w16} c.ranges.rssi) (to_z-of_z {w = w8} c.ranges.snr)
     in
     record { answer = ap (λ (a : Checked). number_in (checked_says a l)) e ∙ ap (λ (r : PathBytes). number_in (checked_says r.answer r.bytes)) w; b = ap (λ (a : Checked). left_by as_it_is old (checked_says a l)) e ∙ ap (λ (r : PathBytes). left_by as_it_is old (checked_says r.answer r.bytes)) w }
 
@@ -31,7 +31,7 @@ returns-in-Accepted c =
     let a = c.args in
     -- the two signed numbers go through their bits
     let w : c.to_bytes-made.result ≡ path_bytes (record { relay_id = a.relay_id; rssi = a.rssi; snr = a.snr; odd = 0 }) =
-      c.to_bytes-made.ensures
-        ∙ ap₂ (λ (x y : ℤ). path_bytes (record { relay_id = a.relay_id; rssi = x; snr = y; odd = 0 })) (to_z-of_z {w = w16} c.ranges.rssi) (to_z-of_z {w = w8} c.ranges.snr)
+    c.to_bytes-made.ensures
+    ∙ ap₂ (λ (x y : ℤ). path_bytes (record { relay_id = a.relay_id; rssi = x; snr = y; odd = 0 })) (to_z-of_z {w = w16} c.ranges.rssi) (to_z-of_z {w = w8} c.ranges.snr)
     in
     record { answer = ap (λ (a : Checked). number_in (checked_says a l)) e ∙ ap (λ (r : PathBytes). number_in (checked_says r.answer r.bytes)) w; b = ap (λ (a : Checked). left_by as_it_is old (checked_says a l)) e ∙ ap (λ (r : PathBytes). left_by as_it_is old (checked_says r.answer r.bytes)) w }

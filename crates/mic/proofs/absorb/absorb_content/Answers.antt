@@ -23,8 +23,11 @@ returns-in-Sealed c = let r = c.in-Sealed.run' in
 pub returns-in-Open : goal.returns-in-Open
 unfolding content_bytes
 returns-in-Open c = let a = c.args in
-    rw c.in-Open.is (record { state = c.absorb_kept.ensures
-          ∙ ap (λ (s : List ℕ). foldl (absorb1 (enciphered a.e.now)) a.m (open_bytes a.is_event s)) (c.bytes-in-Open.ensures ∙ ap (λ (s : List ℕ). run_bytes s c.in-Open.run') c.held_in.ensures); bytes = open_lt a.is_event c.in-Open.held c.in-Open.run' a.frame.now a.work.now (λ i. (c.shared_slice_known-1.given i).fits) (λ i. (c.shared_slice_known-2-1.given i).fits) })
+    rw c.in-Open.is (record {
+      state = c.absorb_kept.ensures
+          ∙ ap (λ (s : List ℕ). foldl (absorb1 (enciphered a.e.now)) a.m (open_bytes a.is_event s)) (c.bytes-in-Open.ensures ∙ ap (λ (s : List ℕ). run_bytes s c.in-Open.run') c.held_in.ensures);
+      bytes = open_lt a.is_event c.in-Open.held c.in-Open.run' a.frame.now a.work.now (λ i. (c.shared_slice_known-1.given i).fits) (λ i. (c.shared_slice_known-2-1.given i).fits);
+    })
 
 pub returns-in-Items : goal.returns-in-Items
 unfolding content_bytes

@@ -25,10 +25,13 @@ pub returns-in-Open : goal.returns-in-Open
 unfolding decrypt_of work_after
 returns-in-Open c = let r = c.in-Open.run' in
     let h = c.held_in-s.ensures in
-    rw c.in-Open.is (record { answer = c.refuse_open.ensures
+    rw c.in-Open.is (record {
+      answer = c.refuse_open.ensures
           ∙ ap₂ refuse_open
           (ap (λ (o : Opening). o.kept) (c.count_items-told.ensures ∙ ap (opening_of c.args.is_event) (c.bytes.ensures ∙ ap (λ (s : List ℕ). run_bytes s r) h)))
-          (c.refusal.ensures ∙ ap (λ (s : List ℕ). run_refusal (length s) r) h); work = refl })
+          (c.refusal.ensures ∙ ap (λ (s : List ℕ). run_refusal (length s) r) h);
+      work = refl;
+    })
 
 pub returns-in-Items : goal.returns-in-Items
 unfolding decrypt_of work_after
