@@ -89,7 +89,7 @@ def declarations(path):
 
 def file_of(module, root=ROOT):
     """The file of a module of this repository, or None: the kit's, or a type that a source declares."""
-    m = re.fullmatch(r'(?:package\.)?Rattle·(\w+)(?:·(?:specs|proofs))?\.(specs|proofs)\.(?!declared\.)(\S+)', module)
+    m = re.fullmatch(r'Rattle\.(\w+)\.(specs|proofs)\.(?!declared\.)(\S+)', module)
     path = m and root / 'crates' / m[1] / m[2] / (m[3].replace('.', '/') + '.antt')
     return path if path and path.is_file() else None
 
@@ -113,7 +113,7 @@ def names(path, lines):
     while at < len(row):
         name, chain = row[at], [row[at]]
         # a dotted path, of a module's name or from a library down
-        while at + 2 < len(row) and row[at + 1] == '.' and (name.startswith(('Rattle·', 'package')) or outside(path).get(name, ('', '-'))[1] == ''):
+        while at + 2 < len(row) and row[at + 1] == '.' and (name == 'Rattle' or outside(path).get(name, ('', '-'))[1] == ''):
             at += 2
             chain.append(row[at])
         if name in outside(path):
@@ -124,16 +124,30 @@ def names(path, lines):
         at += 1
     # an operator stands between its arguments
     there = set(row)
-    def used(name): return '_' in name and set(filter(None, name.split('_'))) <= there and name.strip('_')
+    def used(name): return '◌' in name and set(filter(None, name.split('◌'))) <= there and name.strip('◌')
     theirs.update((name, home) for name, home in outside(path).items() if used(name))
     return theirs, own | set(filter(used, parts(path)))
 
 # ---- Rattle
 
+# a comment, a string or a character
+PIECE = re.compile(r'//[^\n]*|/\*.*?\*/|b?"(?:\\.|[^"\\])*"|b?\'(?:\\[^\n]+?|[^\'\\\n])\'', re.S)
+
 def code(text):
-    """Rattle with blanks for its comments and for what its byte strings hold."""
-    piece = re.compile(r'//[^\n]*|/\*.*?\*/|b"(?:\\.|[^"\\])*"|b\'(?:\\.|[^\'\\])+\'', re.S)
-    return piece.sub(lambda m: ''.join(c if c == '\n' else ' ' for c in m[0]) if m[0][0] == '/' else m[0][:2] + ' ' * (len(m[0]) - 3) + m[0][-1], text)
+    """Rattle with blanks for its comments and for what its strings hold, but for the "C" of an exported function."""
+    def blank(m):
+        if m[0] == '"C"': return m[0]
+        ends = (0, 0) if m[0][0] == '/' else (m[0].index(m[0][-1]) + 1, 1)
+        inside = m[0][ends[0]:len(m[0]) - ends[1]]
+        return m[0][:ends[0]] + ''.join(c if c == '\n' else ' ' for c in inside) + m[0][len(m[0]) - ends[1]:]
+    return PIECE.sub(blank, text)
+
+# the head of an `impl`, with the type that it is of, also of a trait's
+IMPL = r'^impl(?:<[^>]*>)?\s+(?:[\w:]+(?:<[^{;]*?>)?\s+for\s+)?(\w+)[^{;]*\{'
+
+def generics(text, at):
+    """The place behind a function's parameters in angle brackets, if it has some there."""
+    return skip(text.replace('->', '  '), at, '<>') if text[at:at + 1] == '<' else at
 
 def skip(text, at, pair='{}'):
     """The place behind the bracket that closes the one at a place."""
@@ -155,11 +169,23 @@ def source_types(crate, root=ROOT):
             found[m[1]] = path, text[m.start():end], used_crates(text)
     return found
 
-def used_crates(text): return {path.split('::')[-1]: path.split('::')[0] for path in re.findall(r'^\s*(?:pub )?use ([\w:]+);', text, re.M)}
+def imports(text):
+    """What the `use` lines of Rattle bring: each name with its path, that of a group's name too."""
+    found = {}
+    def take(above, one):
+        head, brace, rest = one.partition('{')
+        path = [*above, *filter(None, (part.strip() for part in head.split(' as ')[0].split('::')))]
+        if brace:
+            for part in pieces(rest[:rest.rindex('}')]): take(path, part)
+        elif path: found[head.partition(' as ')[2].strip() or path[-2 if path[-1] == 'self' else -1]] = [part for part in path if part != 'self' or part == path[0]]
+    for one in re.findall(r'^\s*(?:pub(?:\([^)]*\))? )?use ([^;]*);', text, re.M): take([], one)
+    return found
+
+def used_crates(text): return {name: path[0] for name, path in imports(text).items()}
 
 def types_under(module):
     """The source's type that a module of `declared` is made of, and those that its parts are of: the file, the name and the text."""
-    m = re.fullmatch(r'(?:package\.)?Rattle·(\w+)(?:·specs)?\.specs\.declared\.(\S+?)(?:\.the-variants)?', module)
+    m = re.fullmatch(r'Rattle\.(\w+)\.specs\.declared\.(\S+?)(?:\.TheVariants)?', module)
     ahead, seen = [(m[1], m[2].split('.')[-1])] if m else [], {}
     while ahead:
         crate, name = ahead.pop()
@@ -193,8 +219,34 @@ class Function:
         self.first, self.public, self.path, self.clauses, self.above, self.contract = first, public, path, clauses, owner or above, contract
     said = property(lambda self: self.above + '::' * bool(self.above) + self.name)
 
+def module(path):
+    """The module of a source file, below its crate's `src`."""
+    below = path.parts[path.parts.index('src') + 1:]
+    return [] if path.stem in ('lib', 'main') else [*below[:-1], path.stem]
+
+@functools.cache
+def places(crate):
+    """Where the proof of each function of a crate stands below `proofs/`, if there is something to write of it: below its module, of a type's below
+    the type, wherever its `impl` is written."""
+    files = {path: code(path.read_text()) for path in sorted((crate / 'src').glob('**/*.rt'))}
+    homes = {name: [*module(path), name] for path, text in files.items() for name in re.findall(r'^(?:pub )?(?:struct|enum) (\w+)', text, re.M)}
+    found = {}
+    for path, text in files.items():
+        blocks = [(m.start(), skip(text, m.end() - 1), m[1]) for m in re.finditer(IMPL, text, re.M)]
+        for m in re.finditer(r'\bfn\s+(\w+)(?=[<(])', text):
+            owner = next((homes.get(name, [*module(path), name]) for start, end, name in blocks if start < m.start() < end), module(path))
+            found['/'.join([*owner, m[1]])] = path
+    return found
+
+def proved(crate, name):
+    """Whether a file or a folder of a crate's proofs is there, or is where those of a function, a type's or a module's would stand: of most functions
+    nothing is to be written."""
+    path = crate / 'proofs' / name
+    return path.is_dir() or path.with_name(path.name + '.antt').is_file() or any((place + '/').startswith(name + '/') for place in places(crate))
+
 def inner(kind):
-    """The name of the type behind references and lifetimes; of a slice or an array that of its parts, in brackets."""
+    """The name of the type behind references and lifetimes, and in what a `?` or a pattern takes it out of; of a slice or an array that of its parts, in brackets."""
+    if m := re.match(r'(?:\w+::)*(?:Result|Option)<(.*)>$', (kind or '').strip(), re.S): kind = (pieces(m[1]) or [''])[0]
     m = re.fullmatch(r"(?:&\s*)?(?:'\w+\s+)?(?:mut\s+)?(?:([\w:]+)(?:<.*>)?|\[(.*?)(?:;[^;\]]*)?\])", (kind or '').strip(), re.S)
     return '' if not m else m[1].split('::')[-1] if m[1] else f'[{inner(m[2])}]'
 
@@ -213,7 +265,7 @@ class Sources:
         self.functions, self.fields, self.uses = [], {}, {}
         for path in sorted(folder.glob('*/src/**/*.rt')):
             crate, module, text = path.relative_to(folder).parts[0], path.stem, code(path.read_text())
-            self.uses[crate, module] = used_crates(text)
+            self.uses[crate, module] = imports(text)
             above = module if module in public_modules(folder / crate) else ''
             for kind, name, at in ((m[1], m[2], m.end() - 1) for m in re.finditer(r'^\s*(?:pub )?(struct|enum) (\w+)(?:<[^>]*>)?\s*[{(]', text, re.M)):
                 body = text[at + 1:skip(text, at, '{}' if text[at] == '{' else '()') - 1]
@@ -226,11 +278,12 @@ class Sources:
                         for k, one in enumerate(pieces(m[3])):
                             field, _, of = one.partition(':') if m[2] == '{' else (str(k), '', one)
                             self.fields[f'{name}::{m[1]}', field.strip()] = inner(of)
-            blocks = [(m.start(), skip(text, m.end() - 1), m[1]) for m in re.finditer(r'^impl(?:<[^>]*>)?\s+(\w+)[^{;]*\{', text, re.M)]
-            for m in re.finditer(r'\bfn\s+(\w+)(?:<[^>]*>)?\s*\(', text):
+            blocks = [(m.start(), skip(text, m.end() - 1), m[1]) for m in re.finditer(IMPL, text, re.M)]
+            for m in re.finditer(r'\bfn\s+(\w+)(?=[<(])', text):
                 owner = next((name for start, end, name in blocks if start < m.start() < end), '')
-                at = skip(text, m.end() - 1, '()')
-                takes, answers = text[m.end():at - 1], re.compile(r'\s*->\s*((?:\[[^]]*\]|[^{\[])*?)\s*(?=\b(?:requires|ensures|ghost)\b|\{)').match(text, at)
+                opens = generics(text, m.end())
+                at = skip(text, opens, '()')
+                takes, answers = text[opens + 1:at - 1], re.compile(r'\s*->\s*((?:\[[^]]*\]|[^{\[])*?)\s*(?=\b(?:requires|ensures|ghost)\b|\{)').match(text, at)
                 if answers: at = answers.end()
                 clauses = []
                 while c := re.compile(r'\s*(?:requires|ensures|ghost)\b[^{]*\{').match(text, at):
@@ -248,8 +301,11 @@ class Sources:
         """The functions that a path in a file may mean."""
         *above, name = path
         owner = above.pop() if above and above[-1][:1].isupper() else ''
-        uses = self.uses[crate, module]
-        home = above[0] if above else uses.get(owner or name, crate)
+        home, first = above[0] if above else crate, owner or name
+        if not above and first in self.uses[crate, module]:
+            # as it is called there
+            path = self.uses[crate, module][first]
+            home, owner, name = path[0], owner and path[-1], name if owner else path[-1]
         # a module of the crate's own; what is neither is a library's of the kit
         own = home in ('crate', 'self', 'super') or (crate, home) in self.uses
         if own: home = crate
@@ -291,8 +347,9 @@ class Sources:
             at = skip(f.body, f.body.find('{', at))
             here = {path[-2] if len(path) > 1 and path[-2][:1].isupper() else path[-1]}
         else: here = set(env.get(path[-1], ()))
-        while m := re.compile(r'\s*\.\s*(\w+)|\[').match(f.body, at):
+        while m := re.compile(r'\s*\.\s*(\w+)|\[|\?').match(f.body, at):
             at = m.end()
+            if m[0] == '?': continue
             if not m[1]: at, here = skip(f.body, m.start(), '[]'), {kind[1:-1] for kind in here if kind[:1] == '['}
             elif f.body[at:at + 1] == '(':
                 at = skip(f.body, at, '()')
