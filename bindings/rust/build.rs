@@ -51,19 +51,22 @@ fn repositorys() -> Result<PathBuf, String> {
     for made_of in ["crates", "crates.txt"] {
         let made_of = root.join(made_of);
         println!("cargo:rerun-if-changed={}", made_of.display());
-        if let Some(file) = newer(&made_of, built).map_err(|e| format!("{}: {e}", made_of.display()))? {
+        if let Some(file) = newer(&made_of, built, 0).map_err(|e| format!("{}: {e}", made_of.display()))? {
             return Err(format!("{} is older than {}: {run}", archive.display(), file.display()));
         }
     }
     Ok(folder)
 }
 
-/// A file here or in a folder below that is newer. The time of a folder does not count.
-fn newer(path: &Path, built: SystemTime) -> io::Result<Option<PathBuf>> {
+/// A file here or in a folder below that is newer. The time of a folder does not count, nor what `rt` makes: a crate's `out`, two folders down.
+fn newer(path: &Path, built: SystemTime, deep: usize) -> io::Result<Option<PathBuf>> {
     let meta = fs::symlink_metadata(path)?;
     if meta.is_dir() {
+        if deep == 2 && path.ends_with("out") {
+            return Ok(None);
+        }
         for entry in fs::read_dir(path)? {
-            if let Some(file) = newer(&entry?.path(), built)? {
+            if let Some(file) = newer(&entry?.path(), built, deep + 1)? {
                 return Ok(Some(file));
             }
         }
