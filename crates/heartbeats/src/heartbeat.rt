@@ -1,5 +1,5 @@
-// Heartbeats. A function over a lent list of records is not covered by the prover's own walk of the code, so `first_bad`, `from_slice` and
-// `write` are a loop each, over functions that are.
+// Heartbeats. `first_bad`, `from_slice` and `write` go over a lent list of records: each is one loop, and what a turn does stands in a function
+// of its own.
 ghost use Rattle.std.specs.Prelude.{◌≡◌, ◌+◌, ◌*◌, ◌≤◌, length};
 ghost use Rattle.base.specs.Lists.{or_else, first_of};
 ghost use Rattle.base.specs.Answers.{answer_of, out_of};

@@ -1,4 +1,4 @@
-// Path entries in three lent lists of numbers, which the prover's own walk covers and C can lend. The shortest list counts.
+// Path entries in three lent lists of numbers, which C can lend. The shortest list counts.
 ghost use Rattle.std.specs.Prelude.{◌≡◌, pos, get_or};
 ghost use Rattle.base.specs.Lists.{first_of, joined};
 ghost use Rattle.base.specs.Answers.{answer_of, out_of};

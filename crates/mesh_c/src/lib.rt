@@ -1,4 +1,5 @@
-// The face for C and Rust: exported functions on numbers and slices, each proved like any other. include/mesh.h declares them.
+// The face for C and Rust: functions on numbers and slices, each proved like any other. mesh_c_abi exports them, and include/mesh.h declares
+// them.
 #![tactic(auto)]
 
 ghost use Rattle.std.specs.Prelude.{◌≡◌};
