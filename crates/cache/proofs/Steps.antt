@@ -9,8 +9,11 @@ use native.Mathlib.Omega.{arith}
 use borrow.Author.Tests.{lt-ltb, le-ltb}
 use lib.ListN.{length, take, drop, get_or, set}
 use lib.Seq.{take-suc, take-add}
+use mir.Val.{Val}
+use denote.Laws.{Is}
 use Rattle.cache.specs.declared.record.PayloadCache.{PayloadCache}
 use Rattle.cache.specs.declared.ring.Cache.{Cache}
+use Rattle.cache.specs.contracts.ring.Cache as T
 use Rattle.cache.specs.declared.ring.CacheAnswer.TheVariants.{New, Seen}
 use Rattle.cache.specs.Cache.{same_record, has}
 use Rattle.cache.specs.inner.Ring.{ring_count, ring_place, pushed_of, refused_by, added_of}
@@ -54,6 +57,10 @@ looked_more l r d n i g h k e =
     record { within = omega arith; none = has_more l i d r (omega arith) ∙ ap (λ (t : Bool). t || same_record (get_or l i d) r) g.none ∙ e }
 
 -- ---- numbers
+
+-- a cache of the code has 64 places
+pub slots_long : (c : Cache) (vs : List Val) → Is T.the_row c vs → length c.slots ≡ 64
+slots_long c vs p = p.1.1.0.1.0.1
 
 -- how many there are to look through
 pub count_small : (len size n : ℕ) → n ≡ min len size → size ≤ 64 → n ≤ 64
