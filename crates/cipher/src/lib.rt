@@ -3,13 +3,12 @@
 // once for a key, with the key behind it; one round key is in hand, and the next is worked out from it.
 #![tactic(auto)]
 
-ghost use Rattle.std.specs.Prelude.{◌≡◌, length, get_or};
+ghost use Rattle.std.specs.Prelude.{◌≡◌, ◌<◌, get_or};
 ghost use Rattle.cipher.specs.inner.Words.{byte_of, turned, sub, column, last_column, loaded, first_key, next_cols, keyed, stepped, last_stepped, bytes_of, te_table, key_words, prepared, enciphered};
-ghost use Rattle.wire.specs.Lay.{put};
 
 use fips197::times2;
 use keys::Aes128Key;
-use wire::be32_of;
+use wire::{be32_bytes, be32_of};
 
 // Of each byte: its S-box value s, as the column 2s, s, s, 3s.
 const TE: [u32; 256] = [
@@ -68,50 +67,25 @@ struct Cols {
     d: u32,
 }
 
-fn byte0(x: u32) -> u8
-    ensures { result ≡ byte_of 0 x }
+// Byte R of a word, its highest first.
+#[tactic(auto, unfolding(crate::specs::inner::Words::byte_of))]
+fn byte<const R: usize>(x: u32) -> u8
+    requires { R < 4 }
+    ensures { result ≡ byte_of R x }
 {
-    (x / 16777216 % 256) as u8
+    be32_bytes(x)[R]
 }
 
-fn byte1(x: u32) -> u8
-    ensures { result ≡ byte_of 1 x }
+// A word turned right by K bytes.
+fn turn<const K: u32>(x: u32) -> u32
+    requires { K < 4 }
+    ensures { result ≡ turned K x }
 {
-    (x / 65536 % 256) as u8
-}
-
-fn byte2(x: u32) -> u8
-    ensures { result ≡ byte_of 2 x }
-{
-    (x / 256 % 256) as u8
-}
-
-fn byte3(x: u32) -> u8
-    ensures { result ≡ byte_of 3 x }
-{
-    (x % 256) as u8
-}
-
-// A word turned right by one, two or three bytes.
-fn turn1(x: u32) -> u32
-    ensures { result ≡ turned 1 x }
-{
-    x / 256 + x % 256 * 16777216
-}
-
-fn turn2(x: u32) -> u32
-    ensures { result ≡ turned 2 x }
-{
-    x / 65536 + x % 65536 * 65536
-}
-
-fn turn3(x: u32) -> u32
-    ensures { result ≡ turned 3 x }
-{
-    x / 16777216 + x % 16777216 * 256
+    x.rotate_right(8 * K)
 }
 
 // The four columns of a block.
+#[tactic(auto, unfolding(crate::specs::inner::Words::loaded, crate::specs::inner::Words::col))]
 fn load(s: [u8; 16]) -> Cols
     ensures { result ≡ loaded s }
 {
@@ -124,59 +98,30 @@ fn load(s: [u8; 16]) -> Cols
 }
 
 // The bytes of four columns.
+#[tactic(auto, unfolding(crate::specs::inner::Words::bytes_of, crate::specs::inner::Words::byte_of))]
 fn unload(s: Cols) -> [u8; 16]
     ensures { result ≡ bytes_of s }
 {
+    let a = be32_bytes(s.a);
+    let b = be32_bytes(s.b);
+    let c = be32_bytes(s.c);
+    let d = be32_bytes(s.d);
     [
-        byte0(s.a),
-        byte1(s.a),
-        byte2(s.a),
-        byte3(s.a),
-        byte0(s.b),
-        byte1(s.b),
-        byte2(s.b),
-        byte3(s.b),
-        byte0(s.c),
-        byte1(s.c),
-        byte2(s.c),
-        byte3(s.c),
-        byte0(s.d),
-        byte1(s.d),
-        byte2(s.d),
-        byte3(s.d),
+        a[0], a[1], a[2], a[3], b[0], b[1], b[2], b[3], c[0], c[1], c[2], c[3], d[0], d[1], d[2],
+        d[3],
     ]
 }
 
 // ---- what is laid out for a key
 
-fn lay_table(e: &mut Cipher)
-    requires { length e.old ≡ 260 }
-    ensures { e.new ≡ put e.old 0 te_table }
-{
-    let t = te_table();
-    for i in 0usize..256 {
-        e[i] = t[i];
-    }
-}
-
-fn lay_key(e: &mut Cipher, key: [u8; 16])
-    requires { length e.old ≡ 260 }
-    ensures { e.new ≡ put e.old 256 (key_words key) }
-{
-    let k = load(key);
-    e[256] = k.a;
-    e[257] = k.b;
-    e[258] = k.c;
-    e[259] = k.d;
-}
-
 // The cipher made ready for a key.
 pub fn prepare(key: Aes128Key) -> Cipher
     ensures { result ≡ prepared key.0 }
 {
+    let k = load(key.to_bytes());
     let mut e = [0u32; WORDS];
-    lay_table(&mut e);
-    lay_key(&mut e, key.to_bytes());
+    e[..256].copy_from_slice(&te_table());
+    e[256..].copy_from_slice(&[k.a, k.b, k.c, k.d]);
     e
 }
 
@@ -189,14 +134,16 @@ fn te(e: &Cipher, x: u8) -> u32
 }
 
 // The S-box value, which is the second byte of the table's word.
+#[tactic(auto, unfolding(crate::specs::inner::Words::sub))]
 fn sub(e: &Cipher, x: u8) -> u8
     ensures { result ≡ sub e.now x }
 {
-    byte1(te(e, x))
+    byte::<1>(te(e, x))
 }
 
 // ---- round keys
 
+#[tactic(auto, unfolding(crate::specs::inner::Words::first_key))]
 fn first_key(e: &Cipher) -> Cols
     ensures { result ≡ first_key e.now }
 {
@@ -209,14 +156,15 @@ fn first_key(e: &Cipher) -> Cols
 }
 
 // The round key after k, by section 5.2: v is its round constant.
+#[tactic(auto, unfolding(crate::specs::inner::Words::next_cols, crate::specs::inner::Words::first_col))]
 fn next_cols(e: &Cipher, v: u8, k: Cols) -> Cols
     ensures { result ≡ next_cols e.now v k }
 {
     let t = be32_of(
-        sub(e, byte1(k.d)) ^ v,
-        sub(e, byte2(k.d)),
-        sub(e, byte3(k.d)),
-        sub(e, byte0(k.d)),
+        sub(e, byte::<1>(k.d)) ^ v,
+        sub(e, byte::<2>(k.d)),
+        sub(e, byte::<3>(k.d)),
+        sub(e, byte::<0>(k.d)),
     );
     let a = k.a ^ t;
     let b = k.b ^ a;
@@ -227,24 +175,28 @@ fn next_cols(e: &Cipher, v: u8, k: Cols) -> Cols
 
 // ---- a block
 
+#[tactic(auto, unfolding(crate::specs::inner::Words::column))]
 fn round_column(e: &Cipher, a: u32, b: u32, c: u32, d: u32, k: u32) -> u32
     ensures { result ≡ column e.now a b c d k }
 {
-    te(e, byte0(a))
-        ^ (turn1(te(e, byte1(b))) ^ (turn2(te(e, byte2(c))) ^ (turn3(te(e, byte3(d))) ^ k)))
+    te(e, byte::<0>(a))
+        ^ (turn::<1>(te(e, byte::<1>(b)))
+            ^ (turn::<2>(te(e, byte::<2>(c))) ^ (turn::<3>(te(e, byte::<3>(d))) ^ k)))
 }
 
+#[tactic(auto, unfolding(crate::specs::inner::Words::last_column))]
 fn last_column(e: &Cipher, a: u32, b: u32, c: u32, d: u32, k: u32) -> u32
     ensures { result ≡ last_column e.now a b c d k }
 {
     be32_of(
-        sub(e, byte0(a)),
-        sub(e, byte1(b)),
-        sub(e, byte2(c)),
-        sub(e, byte3(d)),
+        sub(e, byte::<0>(a)),
+        sub(e, byte::<1>(b)),
+        sub(e, byte::<2>(c)),
+        sub(e, byte::<3>(d)),
     ) ^ k
 }
 
+#[tactic(auto, unfolding(crate::specs::inner::Words::keyed))]
 fn add_key(k: Cols, s: Cols) -> Cols
     ensures { result ≡ keyed k s }
 {
@@ -256,6 +208,7 @@ fn add_key(k: Cols, s: Cols) -> Cols
     }
 }
 
+#[tactic(auto, unfolding(crate::specs::inner::Words::stepped))]
 fn step(e: &Cipher, k: Cols, s: Cols) -> Cols
     ensures { result ≡ stepped e.now k s }
 {
@@ -267,6 +220,7 @@ fn step(e: &Cipher, k: Cols, s: Cols) -> Cols
     }
 }
 
+#[tactic(auto, unfolding(crate::specs::inner::Words::last_stepped))]
 fn last_step(e: &Cipher, k: Cols, s: Cols) -> Cols
     ensures { result ≡ last_stepped e.now k s }
 {

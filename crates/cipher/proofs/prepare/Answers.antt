@@ -1,18 +1,9 @@
 -- `cipher::prepare` meets its contract. Assumes nothing.
-use lib.ListN.{length, replicate}
-use mathlib.Core.List.{List}
-use Prim.Native.Nat.{ℕ}
-use Rattle.wire.specs.Lay.{put}
-use Rattle.wire.proofs.Laws.Lay.{put_length}
-use Rattle.cipher.specs.inner.Words.{key_words}
+use mathlib.Core.Path.{◌∙◌}
 use Rattle.cipher.proofs.Laws.{laid_out}
-use mathlib.Core.Path.{refl, ap, ap₂, ◌∙◌}
 use Rattle.cipher.proofs.prepare.Goals as goal
 
-pub lay_key-requires : goal.lay_key-requires
-lay_key-requires c = ap length c.lay_table.ensures ∙ put_length _ _ _
-
 pub returns : goal.returns
-returns c = c.lay_key.ensures
-    ∙ ap₂ (λ (o k : List ℕ). put o 256 (key_words k)) c.lay_table.ensures c.to_bytes.ensures
-    ∙ laid_out (replicate 260 0) _ refl
+returns c = let k = c.load-k.ensures in
+    let b = c.to_bytes.ensures in
+    laid_out _ _ _ _ (c.copy_from_slice.ensures.after ∙ c.te_table.ensures) (cc) c.copy_from_slice-2.ensures.after
