@@ -33,6 +33,7 @@ pub fn sbox_table() -> [u8; 256]
 }
 
 // Section 4.2: times x.
+#[tactic(auto, unfolding(crate::specs::Field::xtime))]
 pub fn times2(b: u8) -> u8
     ensures { result ≡ xtime b }
 {
