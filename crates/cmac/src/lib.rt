@@ -1,20 +1,19 @@
 // AES-CMAC (RFC 4493), of a whole message or of one that comes in pieces, which may end anywhere.
 #![tactic(auto)]
 
-ghost use Rattle.std.specs.Prelude.{◌≡◌, ◌<◌, length};
+ghost use Rattle.std.specs.Prelude.{◌≡◌};
 ghost use mathlib.Core.List.{foldl};
 ghost use Rattle.fips197.specs.Aes.{aes};
 ghost use Rattle.cipher.specs.inner.Words.{enciphered};
 ghost use Rattle.cmac_chain.specs.Cmac.{k1, k2, tag};
 ghost use Rattle.cmac_chain.specs.inner.State.{absorb1, finished};
-ghost use Rattle.cmac_chain.specs.inner.Progress.{Progress};
 
-use base::least;
 use cipher::{Cipher, encipher, prepare};
 use cmac_chain::{Mac, add, double};
 use keys::Aes128Key;
 
 // Section 2.3's K1, for a last block that is whole.
+#[tactic(auto, unfolding(cmac_chain::specs::Cmac::k1, cmac_chain::specs::Cmac::zeros))]
 pub fn subkey1(e: &Cipher) -> [u8; 16]
     ensures { result ≡ k1 (enciphered e.now) }
 {
@@ -22,60 +21,24 @@ pub fn subkey1(e: &Cipher) -> [u8; 16]
 }
 
 // Section 2.3's K2, for a last block that is padded.
+#[tactic(auto, unfolding(cmac_chain::specs::Cmac::k2))]
 pub fn subkey2(e: &Cipher) -> [u8; 16]
     ensures { result ≡ k2 (enciphered e.now) }
 {
     double(subkey1(e))
 }
 
-// A state, and the index of the next byte to absorb.
-#[derive(Clone, Copy)]
-struct Went {
-    mac: Mac,
-    next: usize,
-}
-
-// Bytes into the block in hand; or a whole block at once, where that one is full and a whole one follows.
-fn turn(m: Mac, e: &Cipher, s: &[u8], i: usize) -> Went
-    requires { i < length s.now }
-    ensures { Progress (absorb1 (enciphered e.now)) s.now m i result.mac result.next }
-{
-    let held = m.count;
-    if held < 16 {
-        let end = i + least(16 - held, s.len() - i);
-        return Went {
-            mac: m.fill(&s[i..end]),
-            next: end,
-        };
-    }
-    let x = m.x;
-    let y = encipher(e, x);
-    if 16 <= s.len() - i {
-        let z = add(y, &s[i..]);
-        let n = Mac { x: z, count: 16 };
-        return Went {
-            mac: n,
-            next: i + 16,
-        };
-    }
-    let n = Mac { x: y, count: 0 };
-    Went {
-        mac: n.fill(&s[i..]),
-        next: s.len(),
-    }
-}
-
 // The next bytes of the message. A full block stays in hand until more bytes come, as it may be the last.
 pub fn absorb(m: Mac, e: &Cipher, s: &[u8]) -> Mac
     ensures { result ≡ foldl (absorb1 (enciphered e.now)) m s.now }
 {
-    let mut a = m;
-    let mut i: usize = 0;
-    while i < s.len() {
-        let u = turn(a, e, s, i);
-        let b = u.mac;
-        a = b;
-        i = u.next;
+    let (head, rest) = s.split_at(s.len().min(16usize.saturating_sub(m.count)));
+    let mut a = m.fill(head);
+    for block in rest.chunks(16) {
+        a = Mac {
+            x: add(encipher(e, a.x), block),
+            count: block.len(),
+        };
     }
     a
 }
@@ -87,7 +50,7 @@ pub fn finish(m: Mac, e: &Cipher) -> [u8; 16]
     let count = m.count;
     let mut x = m.x;
     if count < 16 {
-        x[count] = x[count] ^ 0x80;
+        x[count] ^= 0x80;
         let k2 = subkey2(e);
         return encipher(e, add(x, &k2));
     }

@@ -1,4 +1,5 @@
--- What a turn of `absorb` does, bytes into the block in hand or a whole block at once, and what `finish` does. Assumes nothing.
+-- What `absorb` does, with the bytes that the block in hand has room for and with each block after it, and what `finish` does. Assumes
+-- nothing.
 use mathlib.Core.Path.{◌≡◌, refl, sym, ap, ap₂, ◌∙◌}
 use mathlib.Core.Bool.{Bool, true, false}
 use Prim.Native.Nat.{ℕ, suc, ◌+◌, ◌-◌, ◌≤◌, ◌<◌, min}
@@ -8,14 +9,13 @@ use native.Mathlib.Omega.{arith}
 use mathlib.Core.List.{List, [], ◌∷◌, ◌++◌, foldl, foldl-append, append_assoc, append-nil}
 use lib.ListN.{length, get_or, set, take, drop, take-append-drop, length-append, length-drop}
 use lib.Dec.{ltb}
-use lib.Seq.{take_all, drop-drop, drop-length, length-take-le, drop-cons}
+use lib.Seq.{take_all, drop-length, length-take-le}
 use borrow.Author.Tests.{lt-ltb, le-ltb, ltb-true, ltb-false}
 use Rattle.base.specs.Lists.{added}
 use Rattle.base.proofs.Lists.{from_zero_at, added_none, added_one, fold_more}
 use Rattle.wire.proofs.Laws.Lay.{put_whole, Laying, laying_more, laying_done}
 use Rattle.cmac_chain.specs.Cmac.{shl, shifted, k1, k2}
 use Rattle.cmac_chain.specs.inner.State.{added_at, fill1, absorb1, finished}
-use Rattle.cmac_chain.specs.inner.Progress.{Progress}
 use Rattle.cmac_chain.specs.declared.Mac.{Mac}
 
 module _ (E : List ℕ → List ℕ) (x : List ℕ) where
@@ -40,44 +40,23 @@ first E m b h =
     let p = rw (added_none (E m.x)) at (added_one (E m.x) [] b) in
     simp (le-ltb m.count 16 h) (ap (λ (y : List ℕ). record { x = y; count = 1 }) p)
 
--- a full block in hand, and a whole one follows
-block : (E : List ℕ → List ℕ) (m : Mac) (q : List ℕ) → 16 ≤ m.count → length q ≡ 16
-    → foldl (absorb1 E) m q ≡ record { x = added (E m.x) q; count = 16 }
-block E m [] h e = absurd (omega arith)
-block E m (b ∷ q) h e =
-    let f : absorb1 E m b ≡ record { x = added (E m.x) (b ∷ []); count = 1 } = first E m b h in
-    ap (λ (s : Mac). foldl (absorb1 E) s q) f
-    ∙ fill E (E m.x) (b ∷ []) q (omega arith)
-    ∙ ap (λ (n : ℕ). record { x = added (E m.x) (b ∷ q); count = n }) e
+-- a full block in hand, and one more, which may be short
+block : (E : List ℕ → List ℕ) (m : Mac) (q : List ℕ) → 16 ≤ m.count → 0 < length q → length q ≤ 16
+    → foldl (absorb1 E) m q ≡ record { x = added (E m.x) q; count = length q }
+block E m [] h l k = absurd (omega arith)
+block E m (b ∷ q) h l k =
+    ap (λ (s : Mac). foldl (absorb1 E) s q) (first E m b h) ∙ fill E (E m.x) (b ∷ []) q (omega arith)
 
-pub by_block : (E : List ℕ → List ℕ) (s : List ℕ) (i : ℕ) (m : Mac) (y : List ℕ) → 16 ≤ m.count → i + 16 ≤ length s
-    → y ≡ added (E m.x) (take 16 (drop i s)) → Progress (absorb1 E) s m i (record { x = y; count = 16 }) (i + 16)
-by_block E s i m y h l e =
-    let D = drop i s in
-    let k : 16 ≤ length D = rw length-drop (omega arith) in
-    let q : length (take 16 D) ≡ 16 = length-take-le 16 D k in
-    let b = block E m (take 16 D) h q ∙ ap (λ (z : List ℕ). record { x = z; count = 16 }) (sym e) in
-    record {
-      same = ap (foldl (absorb1 E) m) (sym (take-append-drop 16 D)) ∙ foldl-append (absorb1 E) m (take 16 D) (drop 16 D)
-          ∙ ap₂ (λ (a : Mac) (r : List ℕ). foldl (absorb1 E) a r) b (drop-drop 16 i s);
-      more = omega arith;
-      most = omega arith;
-    }
-
--- a full block enciphered, and none of the next in hand
-pub flushed : (E : List ℕ → List ℕ) (s : List ℕ) (m : Mac) (y : List ℕ) (i : ℕ) {n : Mac} {j : ℕ}
-    → 16 ≤ m.count → i < length s → y ≡ E m.x → Progress (absorb1 E) s (record { x = y; count = 0 }) i n j
-    → Progress (absorb1 E) s m i n j
-unfolding absorb1
-flushed E s m y i {n} {j} h l e p =
-    let D = drop (suc i) s in
-    let f : absorb1 E m (get_or s i 0) ≡ absorb1 E (record { x = y; count = 0 }) (get_or s i 0) = simp (le-ltb m.count 16 h) (rw e) in
-    record {
-      same = ap (foldl (absorb1 E) m) (drop-cons s i 0 l) ∙ ap (λ (a : Mac). foldl (absorb1 E) a D) f
-          ∙ sym (ap (foldl (absorb1 E) (record { x = y; count = 0 })) (drop-cons s i 0 l)) ∙ p.same;
-      more = p.more;
-      most = p.most;
-    }
+-- the next block q of what is left, of which the code adds 16 bytes
+pub block_more : (E : List ℕ → List ℕ) (m : Mac) (q t : List ℕ) {all : Mac} {r y : List ℕ} → r ≡ q ++ t → length q ≡ min 16 (length r)
+    → 0 < length r → 16 ≤ m.count → y ≡ added (E m.x) (take 16 q) → all ≡ foldl (absorb1 E) m r
+    → all ≡ foldl (absorb1 E) (record { x = y; count = length q }) t
+block_more E m q t {all} {r} {y} e n l h p a =
+    let k : length q ≤ 16 = omega arith in
+    let z : y ≡ added (E m.x) q = p ∙ ap (added (E m.x)) (take_all 16 q k) in
+    a ∙ ap (foldl (absorb1 E) m) e ∙ foldl-append (absorb1 E) m q t
+    ∙ ap (λ (s : Mac). foldl (absorb1 E) s t)
+    (block E m q h (omega arith) k ∙ ap (λ (x : List ℕ). record { x = x; count = length q }) (sym z))
 
 -- one byte more into the block
 pub fill_more : (s : List ℕ) (j c : ℕ) (x : List ℕ) {all : Mac} → c < 16 → j < length s
@@ -100,34 +79,44 @@ fill_done s j m h = by (ltb m.count 16) refl where
   by false e = full m (drop j s) (ltb-false _ _ e)
 
 -- what fits is absorbed as it is filled in
-fits_in : (E : List ℕ → List ℕ) (m : Mac) (p : List ℕ) → m.count + length p ≤ 16 → foldl (absorb1 E) m p ≡ foldl fill1 m p
+fits_in : (E : List ℕ → List ℕ) (m : Mac) (p : List ℕ) → length p ≤ 16 - m.count → foldl (absorb1 E) m p ≡ foldl fill1 m p
 unfolding absorb1 fill1
 fits_in E m [] h = refl
 fits_in E m (b ∷ p) h =
     let l : m.count < 16 = omega arith in
     simp (lt-ltb m.count 16 l) (fits_in E (record { x = added_at m.x m.count b; count = m.count + 1 }) p (omega arith))
 
-pub by_fill : (E : List ℕ → List ℕ) (s : List ℕ) (i j : ℕ) (m n : Mac) → i < j → j ≤ length s → m.count + (j - i) ≤ 16
-    → n ≡ foldl fill1 m (take (j - i) (drop i s)) → Progress (absorb1 E) s m i n j
-by_fill E s i j m n l k h e =
-    let D = drop i s in
-    let r : j - i ≤ length D = rw length-drop (omega arith) in
-    let q : length (take (j - i) D) ≡ j - i = length-take-le (j - i) D r in
-    let b = fits_in E m (take (j - i) D) (omega arith) ∙ sym e in
-    let o : i + (j - i) ≡ j = omega arith in
-    record {
-      same = ap (foldl (absorb1 E) m) (sym (take-append-drop (j - i) D)) ∙ foldl-append (absorb1 E) m (take (j - i) D) (drop (j - i) D)
-          ∙ ap₂ (λ (a : Mac) (t : List ℕ). foldl (absorb1 E) a t) b (drop-drop (j - i) i s ∙ ap (λ (x : ℕ). drop x s) o);
-      more = l;
-      most = k;
-    }
+filled_count : (m : Mac) (p : List ℕ) → length p ≤ 16 - m.count → (foldl fill1 m p).count ≡ m.count + length p
+unfolding fill1
+filled_count m [] h = omega arith
+filled_count m (b ∷ p) h =
+    let l : m.count < 16 = omega arith in
+    simp (lt-ltb m.count 16 l) (filled_count (record { x = added_at m.x m.count b; count = m.count + 1 }) p (omega arith) ∙ omega arith)
+
+-- the first k bytes of s, as many as the block in hand has room for; if more follow, it is full then
+module _ (m : Mac) (s : List ℕ) (k : ℕ) (e : k ≡ min (length s) (16 - m.count)) where
+  head_long : length (take k s) ≡ k
+  head_long = length-take-le k s (omega arith)
+
+  pub head_in : (E : List ℕ → List ℕ) → foldl (absorb1 E) m s ≡ foldl (absorb1 E) (foldl fill1 m (take k s)) (drop k s)
+  head_in E =
+      let n = head_long in
+      ap (foldl (absorb1 E) m) (sym (take-append-drop k s)) ∙ foldl-append (absorb1 E) m (take k s) (drop k s)
+      ∙ ap (λ (a : Mac). foldl (absorb1 E) a (drop k s)) (fits_in E m (take k s) (omega arith))
+
+  pub head_full : 0 < length (drop k s) → 16 ≤ (foldl fill1 m (take k s)).count
+  head_full h =
+      let n = head_long in
+      let d : length (drop k s) ≡ length s - k = length-drop k s in
+      let c : (foldl fill1 m (take k s)).count ≡ m.count + length (take k s) = filled_count m (take k s) (omega arith) in
+      omega arith
 
 -- what is left of s from i on, as a part of it
 pub rest_is : (s : List ℕ) (i : ℕ) → take (length s - i) (drop i s) ≡ drop i s
 rest_is s i = take_all (length s - i) (drop i s) (rw length-drop (omega arith))
 
 -- the front of s, as far as there is one
-pub take_least : (n : ℕ) (s : List ℕ) (i : ℕ) → i ≡ min n (length s) → take i s ≡ take n s
+pub take_least : (n : ℕ) (s : List ℕ) (i : ℕ) → i ≡ min (length s) n → take i s ≡ take n s
 take_least n s i e = by (ltb (length s) n) refl where
   by : (t : Bool) → ltb (length s) n ≡ t → take i s ≡ take n s
   by true h =

@@ -8,8 +8,6 @@ ghost use Rattle.base.specs.Lists.{added};
 ghost use Rattle.cmac_chain.specs.Cmac.{shl, shifted, doubled};
 ghost use Rattle.cmac_chain.specs.inner.State.{begun, fill1};
 
-use base::least;
-
 // A byte of a block that is shifted left by a bit: `b` is the byte after `a`.
 fn shl(a: u8, b: u8) -> u8
     ensures { result ≡ shl a b }
@@ -34,7 +32,7 @@ pub fn double(l: [u8; 16]) -> [u8; 16]
 {
     let mut s = shift(l);
     if 128 <= l[0] {
-        s[15] = s[15] ^ 0x87;
+        s[15] ^= 0x87;
     }
     s
 }
@@ -44,8 +42,8 @@ pub fn add(x: [u8; 16], s: &[u8]) -> [u8; 16]
     ensures { result ≡ added x (take 16 s.now) }
 {
     let mut y = x;
-    for i in 0usize..least(16, s.len()) {
-        y[i] = y[i] ^ s[i];
+    for i in 0..s.len().min(16) {
+        y[i] ^= s[i];
     }
     y
 }
@@ -59,6 +57,7 @@ pub struct Mac {
 }
 
 impl Mac {
+    #[tactic(auto, unfolding(crate::specs::inner::State::begun, crate::specs::Cmac::zeros))]
     pub fn start() -> Mac
         ensures { result ≡ begun }
     {
@@ -72,15 +71,12 @@ impl Mac {
     pub fn fill(self, s: &[u8]) -> Mac
         ensures { result ≡ foldl fill1 self s.now }
     {
-        let mut x = self.x;
-        let mut c = self.count;
-        let mut j: usize = 0;
-        let end = c + least(16 - least(16, c), s.len());
-        while c < end {
-            x[c] = x[c] ^ s[j];
-            c += 1;
-            j += 1;
+        let room = 16usize.saturating_sub(self.count);
+        let mut m = self;
+        for b in s[..s.len().min(room)].iter() {
+            m.x[m.count] ^= *b;
+            m.count += 1;
         }
-        Mac { x, count: c }
+        m
     }
 }

@@ -18,7 +18,8 @@ returns c = let k = c.args.key.0 in
     let s = c.args.s.now in
     let n : length k ≡ 16 = search rules in
     let f : (i : ℕ) → Fits w8 (get_or k i 0) = λ i. search rules in
+    let g : (i : ℕ) → Fits w8 (get_or s i 0) = λ i. search rules in
     let b : Block k = record { long = n; small = λ i. (f i).fits } in
     c.tag.ensures
     ∙ ap (λ (e : List ℕ). tag (enciphered e) s) c.prepare-e.ensures
-    ∙ tag_same _ _ (prepared_agrees k b) s (λ i. (c.shared_slice_known-1.given i).fits)
+    ∙ tag_same _ _ (prepared_agrees k b) s (λ i. (g i).fits)

@@ -13,11 +13,11 @@ loop-i-init c = (omega arith, sym (added_none _))
 
 pub loop-i-preserved : goal.loop-i-preserved
 loop-i-preserved c = let s = c.args.s.now in
-    let l = c.least-i-end.ensures in
+    let l = c.min-i-end.ensures in
     (omega arith, added_more _ s c.loop-i.i (omega arith) c.loop-i.invariant.1)
 
 pub returns : goal.returns
 returns c = let s = c.args.s.now in
-    let l = c.least-i-end.ensures in
-    let e : c.loop-i.i ≡ min 16 (length s) = omega arith in
+    let l = c.min-i-end.ensures in
+    let e : c.loop-i.i ≡ min (length s) 16 = omega arith in
     c.loop-i.invariant.1 ∙ ap (added _) (take_least 16 s _ e)
