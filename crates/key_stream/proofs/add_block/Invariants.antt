@@ -1,10 +1,7 @@
 -- `key_stream::add_block` meets its contract. Assumes nothing.
-use Rattle.std.proofs.Common.{◌≡◌, ◌-◌, ◌≤◌, length, take}
+use Rattle.std.proofs.Common.{◌≡◌, length, take}
 use Rattle.base.specs.Lists.{added}
 use Rattle.key_stream.proofs.add_block.Given as goal
 
 abbrev pub invariant-loop-j : goal.invariant-loop-j
-invariant-loop-j l = (l.j ≤ length l.initial.s) × (length l.s ≡ length l.initial.s) × (l.s ≡ added l.initial.s (take l.j l.k))
-
-abbrev pub decreases-loop-j : goal.decreases-loop-j
-decreases-loop-j l = length l.initial.s - l.j
+invariant-loop-j l = (length l.s ≡ length l.initial.s) × (l.s ≡ added l.initial.s (take l.j l.k))
