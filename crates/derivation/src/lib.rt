@@ -27,12 +27,14 @@ pub fn derive(e: &Cipher, first: u8) -> Aes128Key
     Aes128Key::from_bytes(encipher(e, b))
 }
 
+#[tactic(auto, unfolding(crate::specs::Derived::signing_key))]
 pub fn get_signing_key(key: Aes128Key) -> Aes128Key
     ensures { result ≡ key_of (signing_key key.0) }
 {
     get_key(key, 0)
 }
 
+#[tactic(auto, unfolding(crate::specs::Derived::encryption_key))]
 pub fn get_encryption_key(key: Aes128Key) -> Aes128Key
     ensures { result ≡ key_of (encryption_key key.0) }
 {
