@@ -73,7 +73,7 @@ impl Mac {
     {
         let room = 16usize.saturating_sub(self.count);
         let mut m = self;
-        for b in s[..s.len().min(room)].iter() {
+        for b in &s[..s.len().min(room)] {
             m.x[m.count] ^= *b;
             m.count += 1;
         }
