@@ -56,7 +56,8 @@ fn te_table() -> [u32; 256]
 // Words of a prepared cipher.
 pub const WORDS: usize = 260;
 
-// A cipher made ready for one key. What is laid out in it is known to this crate alone, and its length by its name.
+// A cipher made ready for one key. What is laid out in it is known to this crate alone, and its length by its name. It is C's array of
+// MESH_CIPHER_WORDS words (include/mesh.h), so no struct with methods.
 pub type Cipher = [u32; WORDS];
 
 #[derive(Clone, Copy)]
@@ -208,6 +209,7 @@ fn add_key(k: Cols, s: Cols) -> Cols
     }
 }
 
+// Not one function with `last_step`: a closure of five words at each call, and a clause of it for each column, would say less than these.
 #[tactic(auto, unfolding(crate::specs::inner::Words::stepped))]
 fn step(e: &Cipher, k: Cols, s: Cols) -> Cols
     ensures { result ≡ stepped e.now k s }

@@ -2,19 +2,16 @@
 -- nothing.
 use mathlib.Core.Path.{◌≡◌, refl, sym, ap, ap₂, ◌∙◌}
 use mathlib.Core.Bool.{Bool, true, false}
-use Prim.Native.Nat.{ℕ, suc, ◌+◌, ◌-◌, ◌≤◌, ◌<◌, min}
-use native.Mathlib.Nat.{zero-add}
-use native.Mathlib.Numerals.{add-one}
+use Prim.Native.Nat.{ℕ, ◌+◌, ◌-◌, ◌≤◌, ◌<◌, min}
 use native.Mathlib.Omega.{arith}
 use mathlib.Core.List.{List, [], ◌∷◌, ◌++◌, foldl, foldl-append, append_assoc, append-nil}
-use lib.ListN.{length, get_or, set, take, drop, take-append-drop, length-append, length-drop}
+use lib.ListN.{length, get_or, take, drop, take-append-drop, length-append, length-drop}
 use lib.Dec.{ltb}
 use lib.Seq.{take_all, drop-length, length-take-le}
 use borrow.Author.Tests.{lt-ltb, le-ltb, ltb-true, ltb-false}
 use Rattle.base.specs.Lists.{added}
-use Rattle.base.proofs.Lists.{from_zero_at, added_none, added_one, fold_more}
-use Rattle.wire.proofs.Laws.Lay.{put_whole, Laying, laying_more, laying_done}
-use Rattle.cmac_chain.specs.Cmac.{shl, shifted, k1, k2}
+use Rattle.base.proofs.Lists.{added_none, added_one, fold_more}
+use Rattle.cmac_chain.specs.Cmac.{k1, k2}
 use Rattle.cmac_chain.specs.inner.State.{added_at, fill1, absorb1, finished}
 use Rattle.cmac_chain.specs.declared.Mac.{Mac}
 
@@ -139,24 +136,3 @@ pub finish_full : (E : List ℕ → List ℕ) (m : Mac) {k a r : List ℕ} → 1
 unfolding finished
 finish_full E m {k} h p q n e =
     simp (le-ltb m.count 16 h) (p ∙ ap E (q ∙ rw (take_all 16 k (omega arith), e)))
-
--- the shifted block, a byte after the other, over any 16 bytes o
-module _ (l o : List ℕ) (long : length o ≡ 16) where
-  fits : 0 + length (shifted l) ≤ length o
-  unfolding shifted
-  fits = omega arith
-
-  shifted_at : (i : ℕ) → i < 16 → get_or (shifted l) i 0 ≡ shl (get_or l i 0) (get_or l (suc i) 0)
-  unfolding shifted
-  shifted_at i h = from_zero_at 16 (λ k. shl (get_or l k 0) (get_or l (suc k) 0)) i h
-
-  pub shift_more : (s : List ℕ) (i b : ℕ) → i < 16 → b ≡ shl (get_or l i 0) (get_or l (i + 1) 0) → Laying o 0 (shifted l) s i
-      → Laying o 0 (shifted l) (set s i b) (i + 1)
-  unfolding shifted
-  shift_more s i b h e p =
-      let f = rw add-one at e in
-      rw zero-add at (laying_more o 0 (shifted l) fits s i b h (f ∙ sym (shifted_at i h)) p)
-
-  pub shift_done : (s : List ℕ) → Laying o 0 (shifted l) s 16 → s ≡ shifted l
-  unfolding shifted
-  shift_done s p = laying_done o 0 (shifted l) fits s 16 (omega arith) p ∙ put_whole o (shifted l) (sym long)

@@ -8,6 +8,8 @@ ghost use Rattle.base.specs.Lists.{added};
 ghost use Rattle.cmac_chain.specs.Cmac.{shl, shifted, doubled};
 ghost use Rattle.cmac_chain.specs.inner.State.{begun, fill1};
 
+use std::array;
+
 // A byte of a block that is shifted left by a bit: `b` is the byte after `a`.
 fn shl(a: u8, b: u8) -> u8
     ensures { result ≡ shl a b }
@@ -18,12 +20,7 @@ fn shl(a: u8, b: u8) -> u8
 fn shift(l: [u8; 16]) -> [u8; 16]
     ensures { result ≡ shifted l }
 {
-    let mut s = [0u8; 16];
-    for i in 0usize..15 {
-        s[i] = shl(l[i], l[i + 1]);
-    }
-    s[15] = shl(l[15], 0);
-    s
+    array::from_fn(move |i| shl(l[i], if i < 15 { l[i + 1] } else { 0 }))
 }
 
 // Section 2.3, steps 2 and 3: what makes K1 of the enciphered zeros, and K2 of K1.
@@ -41,6 +38,7 @@ pub fn double(l: [u8; 16]) -> [u8; 16]
 pub fn add(x: [u8; 16], s: &[u8]) -> [u8; 16]
     ensures { result ≡ added x (take 16 s.now) }
 {
+    // By index: of what a `zip` over `iter_mut` has written nothing is known after it.
     let mut y = x;
     for i in 0..s.len().min(16) {
         y[i] ^= s[i];
@@ -71,6 +69,7 @@ impl Mac {
     pub fn fill(self, s: &[u8]) -> Mac
         ensures { result ≡ foldl fill1 self s.now }
     {
+        // A `fold` over a step for one byte took half as long again for the tag of a block.
         let room = 16usize.saturating_sub(self.count);
         let mut m = self;
         for b in &s[..s.len().min(room)] {

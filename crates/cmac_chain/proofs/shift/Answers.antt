@@ -1,22 +1,16 @@
 -- `cmac_chain::shift` meets its contract. Assumes nothing.
-use lib.ListN.{length, get_or, get_or-eq_default}
-use Rattle.wire.proofs.Laws.Lay.{laying_none}
-use Rattle.cmac_chain.specs.Cmac.{shl}
-use Rattle.cmac_chain.proofs.Turns.{shift_more, shift_done}
-use borrow.Author.Rules.{rules}
-use native.Mathlib.Omega.{arith}
-use mathlib.Core.Path.{◌≡◌, refl, sym, ap, ◌∙◌}
+use Rattle.std.proofs.Common.{rules, sym, ◌∙◌, get_or, ◌≡◌, refl, length, arith}
+use lib.ListN.{get_or-eq_default}
+use Rattle.base.proofs.Lists.{◌◂◌, listed}
+use Rattle.cmac_chain.specs.Cmac.{shl, shifted}
 use Rattle.cmac_chain.proofs.shift.Goals as goal
 
-pub loop-i-init : goal.loop-i-init
-loop-i-init c = (omega arith, laying_none _ _ _)
-
-pub loop-i-preserved : goal.loop-i-preserved
-loop-i-preserved c = (omega arith, shift_more _ _ refl _ c.loop-i.i _ (omega arith) c.shl.ensures c.loop-i.invariant.1)
-
 pub returns : goal.returns
-returns c = let e : c.loop-i.i ≡ 15 = omega arith in
-    let p = rw e at c.loop-i.invariant.1 in
-    let n : length c.args.l ≡ 16 = search rules in
-    let z : get_or c.args.l 16 0 ≡ 0 = get_or-eq_default c.args.l 0 (omega arith) in
-    shift_done _ _ refl _ (shift_more _ _ refl _ 15 _ (omega arith) (c.shl-2.ensures ∙ ap (shl (get_or c.args.l 15 0)) (sym z)) p)
+unfolding shifted
+returns c = let l = c.args.l in
+    let n : length l ≡ 16 = search rules in
+    let z : get_or l 16 0 ≡ 0 = get_or-eq_default l 0 (omega arith) in
+    let last : get_or c.from_fn.result 15 0 ≡ shl (get_or l 15 0) 0 = search rules in
+    sym (listed 16 _ c.from_fn.ensures.items.long)
+    ∙ ((search rules) ◂ (search rules) ◂ (search rules) ◂ (search rules) ◂ (search rules) ◂ (search rules) ◂ (search rules) ◂ (search rules)
+    ◂ (search rules) ◂ (search rules) ◂ (search rules) ◂ (search rules) ◂ (search rules) ◂ (search rules) ◂ (search rules) ◂ (rw z last) ◂ refl)
