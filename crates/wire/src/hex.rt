@@ -4,31 +4,20 @@ ghost use Rattle.wire.specs.Hex.{nibble_of, digit_of, pair_of, all_hex, unhex, h
 ghost use Rattle.wire.specs.Lay.{put};
 
 // The value of a digit, or 16 where the byte is none.
+#[tactic(auto, unfolding(crate::specs::Hex::nibble_of))]
 pub fn nibble(b: u8) -> u8
     ensures { result ≡ nibble_of b }
 {
-    if b < b'0' {
-        return 16;
+    match b {
+        b'0'..=b'9' => b - b'0',
+        b'A'..=b'F' => b - b'A' + 10,
+        b'a'..=b'f' => b - b'a' + 10,
+        _ => 16,
     }
-    if b <= b'9' {
-        return b - b'0';
-    }
-    if b < b'A' {
-        return 16;
-    }
-    if b <= b'F' {
-        return b - b'A' + 10;
-    }
-    if b < b'a' {
-        return 16;
-    }
-    if b <= b'f' {
-        return b - b'a' + 10;
-    }
-    16
 }
 
 // The digit of a byte's low four bits.
+#[tactic(auto, unfolding(crate::specs::Hex::digit_of))]
 pub fn digit(n: u8) -> u8
     ensures { result ≡ digit_of (n % 16) }
 {
@@ -37,6 +26,7 @@ pub fn digit(n: u8) -> u8
 }
 
 // The byte of two digits.
+#[tactic(auto, unfolding(crate::specs::Hex::pair_of))]
 fn pair(a: u8, b: u8) -> u8
     ensures { result ≡ pair_of a b }
 {
@@ -47,46 +37,33 @@ fn pair(a: u8, b: u8) -> u8
 pub fn is_hex(s: &[u8]) -> bool
     ensures { result ≡ all_hex s.now }
 {
-    let mut i = 0;
-    while i < s.len() {
-        if 16 <= nibble(s[i]) {
-            return false;
-        }
-        i += 1;
-    }
-    true
+    s.iter().all(|&b| nibble(b) < 16)
 }
 
 // The bytes that pairs of digits stand for, at the front of out; an odd last digit is left over.
+#[tactic(auto, using(crate::proofs::Laws::Lay::put_none, crate::proofs::Laws::Lay::laying_done, crate::proofs::Laws::Hex::unhex_length))]
 pub fn read_hex(s: &[u8], out: &mut [u8])
     ensures { out.new ≡ put out.old 0 (unhex s.now) }
 {
-    let count = s.len() / 2;
-    if out.len() < count {
+    let (pairs, _) = s.as_chunks::<2>();
+    if out.len() < pairs.len() {
         return;
     }
-    let mut i = 0;
-    while i < count {
-        out[i] = pair(s[2 * i], s[2 * i + 1]);
-        i += 1;
+    for (i, &[a, b]) in pairs.iter().enumerate() {
+        out[i] = pair(a, b);
     }
 }
 
 // Two digits for each byte of src, from a place of out on.
+#[tactic(auto, using(crate::proofs::Laws::Lay::put_none, crate::proofs::Laws::Lay::laying_done, crate::proofs::Laws::Hex::hex_length))]
 pub fn write_hex(src: &[u8], out: &mut [u8], at: usize)
     ensures { out.new ≡ put out.old at (hex_text src.now) }
 {
-    if out.len() < at {
+    if out.len() < at || (out.len() - at) / 2 < src.len() {
         return;
     }
-    if (out.len() - at) / 2 < src.len() {
-        return;
-    }
-    let mut i = 0;
-    while i < src.len() {
-        let b = src[i];
+    for (i, &b) in src.iter().enumerate() {
         out[at + 2 * i] = digit(b / 16);
         out[at + 2 * i + 1] = digit(b);
-        i += 1;
     }
 }

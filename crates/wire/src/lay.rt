@@ -6,20 +6,14 @@ ghost use Rattle.wire.specs.Lay.{put};
 use base::{Refusal, Written};
 
 // The bytes of src from a place of out on.
+#[tactic(auto, using(crate::proofs::Laws::Lay::put_none, crate::proofs::Laws::Lay::put_mid_is))]
 pub fn put_all(src: &[u8], out: &mut [u8], at: usize)
     ensures { out.new ≡ put out.old at src.now }
 {
-    if out.len() < at {
+    if out.len() < at || out.len() - at < src.len() {
         return;
     }
-    if out.len() - at < src.len() {
-        return;
-    }
-    let mut i = 0;
-    while i < src.len() {
-        out[at + i] = src[i];
-        i += 1;
-    }
+    out[at..at + src.len()].copy_from_slice(src);
 }
 
 // All of src at the front of out, or 21.

@@ -1,28 +1,30 @@
 -- Laws of hex text: its length and its digits by their index, and that what is written reads back. Assumes nothing.
-use Prim.Native.Nat.{ℕ, zero, suc, ◌+◌, ◌*◌, ◌/◌, ◌%◌, ◌≤◌, ◌<◌}
+use Prim.Native.Nat.{ℕ, zero, suc, ◌+◌, ◌*◌, ◌/◌, ◌%◌, ◌<◌}
 use native.Mathlib.Nat.{le_of_suc-le-suc, not-suc-le-zero}
-use native.Mathlib.Numerals.{add-one}
 use native.Mathlib.Omega.{arith}
-use mathlib.Core.Path.{◌≡◌, refl, ap, ap₂, ◌∙◌}
-use mathlib.Core.Bool.{Bool, true, false}
+use mathlib.Core.Path.{◌≡◌, refl, ap, ◌∙◌}
+use mathlib.Core.Bool.{Bool, true, false, ◌&&◌}
 use mathlib.Core.List.{List, [], ◌∷◌}
-use lib.Dec.{T, eqb, eqb→eq}
-use lib.ListN.{length, get_or, drop}
-use lib.Seq.{drop-cons}
-use borrow.Author.Tests.{lt-ltb, le-ltb}
+use lib.Dec.{T, ltb, eqb, eqb→eq}
+use lib.ListN.{length, get_or}
+use borrow.Author.Tests.{lt-ltb}
+use Rattle.std.specs.List.{list_all}
+use Rattle.std.specs.Simd.{first_chunks}
+use Rattle.base.specs.Pick.{pick}
 use Rattle.base.specs.Lists.{Bytes}
 use Rattle.base.proofs.Below.{each, below}
 use Rattle.base.proofs.Lists.{◌◂◌}
 use Rattle.wire.specs.Hex.{nibble_of, digit_of, pair_of, all_hex, unhex, hex_text}
 
--- a turn of the loop that looks at every digit
-pub hex_more : (s : List ℕ) (i : ℕ) → i < length s → nibble_of (get_or s i 0) < 16 → all_hex (drop i s) ≡ all_hex (drop (i + 1) s)
+-- `all` over the digits
+pub all_is : (s : List ℕ) → list_all (λ b. ltb (nibble_of b) 16) s ≡ all_hex s
 unfolding all_hex
-hex_more s i h l = rw (add-one, drop-cons s i 0 h) (simp (lt-ltb (nibble_of (get_or s i 0)) 16 l))
-
-pub hex_stop : (s : List ℕ) (i : ℕ) → i < length s → 16 ≤ nibble_of (get_or s i 0) → all_hex (drop i s) ≡ false
-unfolding all_hex
-hex_stop s i h l = rw (drop-cons s i 0 h) (simp (le-ltb (nibble_of (get_or s i 0)) 16 l))
+all_is [] = refl
+all_is (b ∷ s) = by (ltb (nibble_of b) 16) (all_is s)
+  where
+    by : {x y : Bool} (t : Bool) → x ≡ y → (t && x) ≡ pick t y false
+    by true e = e
+    by false e = refl
 
 pub unhex_length : (s : List ℕ) → length (unhex s) ≡ length s / 2
 unfolding unhex
@@ -30,15 +32,14 @@ unhex_length [] = refl
 unhex_length (a ∷ []) = refl
 unhex_length (a ∷ b ∷ s) = let e : length (unhex s) ≡ length s / 2 = unhex_length s in omega arith
 
-pub unhex_at : (s : List ℕ) (i : ℕ) → i < length s / 2 → get_or (unhex s) i 0 ≡ pair_of (get_or s (2 * i) 0) (get_or s (2 * i + 1) 0)
+-- a byte is of the pair at its place
+pub unhex_at : (s : List ℕ) (n i : ℕ) (d : List ℕ) → n ≡ length s / 2 → i < n → get_or (unhex s) i 0 ≡ pair_of (get_or (get_or (first_chunks 2 n s) i d) 0 0) (get_or (get_or (first_chunks 2 n s) i d) 1 0)
 unfolding unhex
-unhex_at [] i h = absurd (omega arith)
-unhex_at (a ∷ []) i h = absurd (omega arith)
-unhex_at (a ∷ b ∷ s) zero h = refl
-unhex_at (a ∷ b ∷ s) (suc i) h =
-    let x : suc (suc (2 * i)) ≡ 2 * suc i = omega arith in
-    let y : suc (suc (2 * i + 1)) ≡ 2 * suc i + 1 = omega arith in
-    unhex_at s i (omega arith) ∙ ap₂ (λ (j k : ℕ). pair_of (get_or (a ∷ b ∷ s) j 0) (get_or (a ∷ b ∷ s) k 0)) x y
+unhex_at s zero i d e h = absurd (omega arith)
+unhex_at [] (suc n) i d e h = absurd (omega arith)
+unhex_at (a ∷ []) (suc n) i d e h = absurd (omega arith)
+unhex_at (a ∷ b ∷ s) (suc n) zero d e h = refl
+unhex_at (a ∷ b ∷ s) (suc n) (suc i) d e h = unhex_at s n i d (omega arith) (omega arith)
 
 pub hex_length : (s : List ℕ) → length (hex_text s) ≡ 2 * length s
 unfolding hex_text

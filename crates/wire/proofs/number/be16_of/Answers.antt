@@ -1,8 +1,0 @@
--- `wire::number::be16_of` meets its contract. Assumes nothing.
-use Rattle.wire.specs.Number.{be_more, be_of}
-use native.Mathlib.Omega.{arith}
-use Rattle.wire.proofs.number.be16_of.Goals as goal
-
-pub returns : goal.returns
-unfolding be_more be_of
-returns c = omega arith
