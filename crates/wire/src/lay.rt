@@ -6,14 +6,17 @@ ghost use Rattle.wire.specs.Lay.{put};
 use base::{Refusal, Written};
 
 // The bytes of src from a place of out on.
-#[tactic(auto, using(crate::proofs::Laws::Lay::put_none, crate::proofs::Laws::Lay::put_mid_is))]
+#[tactic(auto, using(crate::proofs::Laws::Lay::put_none, crate::proofs::Laws::Lay::laying_done))]
 pub fn put_all(src: &[u8], out: &mut [u8], at: usize)
     ensures { out.new ≡ put out.old at src.now }
 {
     if out.len() < at || out.len() - at < src.len() {
         return;
     }
-    out[at..at + src.len()].copy_from_slice(src);
+    // No copy_from_slice: it calls memmove, and the archive needs memcpy and memset alone (docs/LINKING.md).
+    for (i, &b) in src.iter().enumerate() {
+        out[at + i] = b;
+    }
 }
 
 // All of src at the front of out, or 21.

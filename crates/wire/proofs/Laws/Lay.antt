@@ -10,7 +10,6 @@ use lib.Dec.{leb}
 use lib.ListN.{length, take, drop, set, get_or, length-append, length-drop, length-set}
 use lib.Seq.{paste, paste-zero, paste-suc, take-length, drop-length, take_at, drop-append-add, drop-drop, length-take-le}
 use borrow.Author.Tests.{le-leb, lt-leb, leb-true}
-use borrow.Rule.Slice.PartMut.{put_mid}
 use Rattle.base.specs.Pick.{pick}
 use Rattle.base.specs.Answers.{bytes, out_of}
 use Rattle.base.proofs.Answers.{room}
@@ -24,10 +23,6 @@ put_none o at v h = simp (lt-leb (at + length v) (length o) h)
 pub put_fits : (o : List ℕ) (at : ℕ) (v : List ℕ) → at + length v ≤ length o → put o at v ≡ laid o at v
 unfolding put
 put_fits o at v h = simp (le-leb (at + length v) (length o) h)
-
--- what is copied into a part that was lent
-pub put_mid_is : (o : List ℕ) (at k : ℕ) (v w : List ℕ) → w ≡ v → k ≡ length v → at + length v ≤ length o → put_mid at k o w ≡ put o at v
-put_mid_is o at k v w e l h = rw (e, l, drop-drop) (sym (append_assoc (take at o) v _) ∙ sym (put_fits o at v h))
 
 kept : (o : List ℕ) (at : ℕ) (v : List ℕ) (t : Bool) → leb (at + length v) (length o) ≡ t → length (pick t (laid o at v) o) ≡ length o
 kept o at v true e =
