@@ -5,14 +5,14 @@ use native.Mathlib.Omega.{arith}
 use mathlib.Core.Path.{◌≡◌, refl, ap, ◌∙◌}
 use mathlib.Core.Bool.{Bool, true, false, ◌&&◌}
 use mathlib.Core.List.{List, [], ◌∷◌}
-use lib.Dec.{T, ltb, eqb, eqb→eq}
+use lib.Dec.{ltb, eqb}
 use lib.ListN.{length, get_or}
-use borrow.Author.Tests.{lt-ltb}
+use borrow.Author.Tests.{lt-ltb, eqb-true}
+use Rattle.std.proofs.lemmas.Bool.{agree_below, agree_below_at}
 use Rattle.std.specs.List.{list_all}
 use Rattle.std.specs.Simd.{first_chunks}
 use Rattle.base.specs.Pick.{pick}
 use Rattle.base.specs.Lists.{Bytes}
-use Rattle.base.proofs.Below.{each, below}
 use Rattle.base.proofs.Lists.{◌◂◌}
 use Rattle.wire.specs.Hex.{nibble_of, digit_of, pair_of, all_hex, unhex, hex_text}
 
@@ -63,16 +63,15 @@ hex_odd (b ∷ s) (suc i) h =
     ap (λ (j : ℕ). get_or (hex_text (b ∷ s)) j 0) x ∙ hex_odd s i (le_of_suc-le-suc h)
 
 -- a digit that is written is a digit, and is read as what it stands for: a test at each of the sixteen
-same : ℕ → Bool
+abbrev same : ℕ → Bool
 same n = eqb (nibble_of (digit_of n)) n
 
-all_same : T (each same 0 16)
-unfolding same nibble_of digit_of
-all_same = tt
+all_same : agree_below same (λ _. true) 16 ≡ true
+unfolding nibble_of digit_of
+all_same = refl
 
 pub nibble_digit : (n : ℕ) → n < 16 → nibble_of (digit_of n) ≡ n
-unfolding same
-nibble_digit n h = eqb→eq (nibble_of (digit_of n)) n (below same 16 all_same n h)
+nibble_digit n h = eqb-true _ n (agree_below_at same (λ _. true) 16 n all_same h)
 
 pub hex_all : (s : List ℕ) → all_hex (hex_text s) ≡ true
 unfolding all_hex hex_text
