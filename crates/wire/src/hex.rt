@@ -37,7 +37,7 @@ fn pair(a: u8, b: u8) -> u8
 pub fn is_hex(s: &[u8]) -> bool
     ensures { result ≡ all_hex s.now }
 {
-    s.iter().all(|&b| nibble(b) < 16)
+    s.iter().all(|b| b.is_ascii_hexdigit())
 }
 
 // The bytes that pairs of digits stand for, at the front of out; an odd last digit is left over.

@@ -1,4 +1,4 @@
-// Big-endian numbers of two, three and four bytes.
+// Big-endian numbers of two, three and four bytes, each by std at its width: three bytes lie in a u32.
 #![tactic(auto, unfolding(crate::specs::Number::be_more, crate::specs::Number::be_of, crate::specs::Number::be_bytes))]
 
 ghost use Rattle.std.specs.Prelude.{◌≡◌, [], ◌∷◌};

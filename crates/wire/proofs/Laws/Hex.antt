@@ -9,6 +9,7 @@ use lib.Dec.{ltb, eqb}
 use lib.ListN.{length, get_or}
 use borrow.Author.Tests.{lt-ltb, eqb-true}
 use Rattle.std.proofs.lemmas.Bool.{agree_below, agree_below_at}
+use Rattle.std.specs.Char.{is_ascii_hexdigit}
 use Rattle.std.specs.List.{list_all}
 use Rattle.std.specs.Simd.{first_chunks}
 use Rattle.base.specs.Pick.{pick}
@@ -16,11 +17,18 @@ use Rattle.base.specs.Lists.{Bytes}
 use Rattle.base.proofs.Lists.{◌◂◌}
 use Rattle.wire.specs.Hex.{nibble_of, digit_of, pair_of, all_hex, unhex, hex_text}
 
--- `all` over the digits
-pub all_is : (s : List ℕ) → list_all (λ b. ltb (nibble_of b) 16) s ≡ all_hex s
+-- a digit by std's test, at each of the 256 bytes
+abbrev is_digit : ℕ → Bool
+is_digit b = ltb (nibble_of b) 16
+
+all_agree : agree_below is_ascii_hexdigit is_digit 256 ≡ true
+unfolding nibble_of
+all_agree = refl
+
+pub all_is : (s : List ℕ) → Bytes s → list_all is_ascii_hexdigit s ≡ all_hex s
 unfolding all_hex
-all_is [] = refl
-all_is (b ∷ s) = by (ltb (nibble_of b) 16) (all_is s)
+all_is [] h = refl
+all_is (b ∷ s) h = rw (agree_below_at is_ascii_hexdigit is_digit 256 b all_agree (h 0)) (by (is_digit b) (all_is s (λ i. h (suc i))))
   where
     by : {x y : Bool} (t : Bool) → x ≡ y → (t && x) ≡ pick t y false
     by true e = e
