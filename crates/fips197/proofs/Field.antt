@@ -4,8 +4,9 @@ use native.Mathlib.Omega.{arith}
 use mathlib.Core.Bool.{Bool, true}
 use mathlib.Core.Path.{◌≡◌, refl}
 use lib.Bits.{xor_lt}
-use lib.Dec.{T, eqb, eqb→eq}
-use Rattle.base.proofs.Below.{each, below}
+use lib.Dec.{eqb}
+use borrow.Author.Tests.{eqb-true}
+use Rattle.std.proofs.lemmas.Bool.{agree_below, agree_below_at}
 use Rattle.fips197.specs.Field.{xtime, bit_times, mul_bits, mul, power_bits, inverse}
 
 pub xtime_lt : (a : ℕ) → a < 256 → xtime a < 256
@@ -31,14 +32,14 @@ inverts : ℕ → Bool
 inverts zero = true
 inverts (suc b) = eqb (mul (suc b) (inverse (suc b))) 1
 
-all_invert : T (each inverts 0 256)
+all_invert : agree_below inverts (λ _. true) 256 ≡ true
 unfolding inverts xtime mul_bits mul power_bits inverse
-all_invert = tt
+all_invert = refl
 
 pub times_inverse : (b : ℕ) → 0 < b → b < 256 → mul b (inverse b) ≡ 1
 unfolding inverts
 times_inverse zero l h = absurd (omega arith)
-times_inverse (suc b) l h = eqb→eq (mul (suc b) (inverse (suc b))) 1 (below inverts 256 all_invert (suc b) h)
+times_inverse (suc b) l h = eqb-true (mul (suc b) (inverse (suc b))) 1 (agree_below_at inverts (λ _. true) 256 (suc b) all_invert h)
 
 pub inverse_of_0 : inverse 0 ≡ 0
 unfolding xtime mul_bits mul power_bits inverse

@@ -1,11 +1,12 @@
 -- The S-box table of the code follows section 5.1.1's rule, by one computation over all its entries. Assumes nothing.
 use mathlib.Core.Path.{◌≡◌, refl}
-use mathlib.Core.Bool.{Bool}
+use mathlib.Core.Bool.{Bool, true}
 use mathlib.Core.List.{List, [], ◌∷◌}
 use Prim.Native.Nat.{ℕ, ◌<◌}
-use lib.Dec.{T, ltb, ltb→lt}
+use lib.Dec.{ltb}
 use lib.ListN.{get_or}
-use Rattle.base.proofs.Below.{each, below}
+use borrow.Author.Tests.{ltb-true}
+use Rattle.std.proofs.lemmas.Bool.{agree_below, agree_below_at}
 use Rattle.base.proofs.Lists.{from_zero_at}
 use Rattle.fips197.specs.Field.{xtime, mul_bits, mul, power_bits, inverse, spun, affine, sbox_of}
 use Rattle.fips197.specs.Aes.{sbox_table}
@@ -42,10 +43,10 @@ sbox_at x h = from_zero_at 256 sbox_of x h
 small : ℕ → Bool
 small x = ltb (sbox_of x) 256
 
-all_small : T (each small 0 256)
+all_small : agree_below small (λ _. true) 256 ≡ true
 unfolding small xtime mul_bits mul power_bits inverse spun affine sbox_of
-all_small = tt
+all_small = refl
 
 pub sbox_lt : (x : ℕ) → x < 256 → sbox_of x < 256
 unfolding small
-sbox_lt x h = ltb→lt (sbox_of x) 256 (below small 256 all_small x h)
+sbox_lt x h = ltb-true (sbox_of x) 256 (agree_below_at small (λ _. true) 256 x all_small h)
