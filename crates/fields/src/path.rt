@@ -68,13 +68,7 @@ impl RelayPath {
     pub fn all_even(path: &[u8]) -> bool
         ensures { result ≡ all_even path.now }
     {
-        let mut at: usize = 0;
-        while RelayPath::LENGTH <= path.len() - at {
-            if snr_of(path[at + 5]).odd != 0 {
-                return false;
-            }
-            at += RelayPath::LENGTH;
-        }
-        true
+        path.chunks_exact(RelayPath::LENGTH)
+            .all(|entry| snr_of(entry[5]).odd == 0)
     }
 }

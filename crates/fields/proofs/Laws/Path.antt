@@ -8,6 +8,12 @@ use lib.Dec.{ltb, eqb}
 use lib.ListN.{length, get_or, drop, length-append, length-drop}
 use lib.Seq.{drop-cons}
 use borrow.Author.Tests.{ltb-true, ltb-false, eq-eqb, ne_eqb, eqb-true}
+use denote.Ref.{Bor}
+use Rattle.std.specs.Prelude.{Option, Some, None, IfSome, IsSomeAnd}
+use Rattle.std.specs.Bool.{MatchBool, IsTrue}
+use Rattle.std.specs.List.{IsSubsliceAt}
+use Rattle.std.specs.Option.{option_map, option_len}
+use Rattle.std.specs.Iterator.Runs.{Run, AllItems, AnyItem, ItemsMapToExactChunks}
 use Rattle.base.specs.Pick.{pick}
 use Rattle.base.specs.Lists.{Bytes, imap, joined}
 use Rattle.base.proofs.Lists.{◌◂◌, listed}
@@ -101,11 +107,8 @@ module _ (v : List ℕ) (i : ℕ) (h : i % 6 ≡ 0) (l : i + 6 ≤ length v) whe
       ∙ even_byte_lem v (i + 5) (i + 6) (omega arith) (omega arith) true (eq-eqb ((i + 5) % 6) 5 (omega arith))
       ∙ ap (λ (u : Bool). u && even_from (i + 6) (drop (i + 6) v)) e
 
-  pub entry_even : (snr_of (get_or v (i + 5) 0)).odd ≡ 0 → even_from i (drop i v) ≡ even_from (i + 6) (drop (i + 6) v)
+  entry_even : (snr_of (get_or v (i + 5) 0)).odd ≡ 0 → even_from i (drop i v) ≡ even_from (i + 6) (drop (i + 6) v)
   entry_even e = entry_by true (eq-eqb _ 0 e)
-
-  pub entry_odd_lem : ((snr_of (get_or v (i + 5) 0)).odd ≡ 0 → ⊥) → even_from i (drop i v) ≡ false
-  entry_odd_lem e = entry_by false (ne_eqb _ 0 e)
 
 few_even : (i : ℕ) (v : List ℕ) → i % 6 + length v < 6 → even_from i v ≡ true
 unfolding even_from
@@ -114,7 +117,7 @@ few_even i (b ∷ v) h =
     let e : i % 6 ≡ 5 → ⊥ = λ z. omega arith in
     simp (ne_eqb (i % 6) 5 e) (few_even (suc i) v (omega arith))
 
-pub even_end : (v : List ℕ) (i : ℕ) → i % 6 ≡ 0 → length v < i + 6 → even_from i (drop i v) ≡ true
+even_end : (v : List ℕ) (i : ℕ) → i % 6 ≡ 0 → length v < i + 6 → even_from i (drop i v) ≡ true
 even_end v i h l = let n = length-drop i v in few_even i (drop i v) (omega arith)
 
 whole : (k : ℕ) → k * 6 % 6 ≡ 0
@@ -125,7 +128,7 @@ six_more k = omega arith
 
 -- that is so exactly if those of each entry are
 module _ (v : List ℕ) where
-  abbrev Even : Type 0
+  abbrev pub Even : Type 0
   Even = (k : ℕ) → k * 6 + 6 ≤ length v → (snr_of (get_or v (k * 6 + 5) 0)).odd ≡ 0
 
   reached : all_even v ≡ true → (k : ℕ) → k * 6 ≤ length v → even_from (k * 6) (drop (k * 6) v) ≡ true
@@ -154,6 +157,51 @@ module _ (v : List ℕ) where
 
   pub even_entries : (all_even v ≡ true → Even) × (Even → all_even v ≡ true)
   even_entries = (each, λ c. all c (length v) 0 (omega arith))
+
+  -- and one that has some is enough
+  abbrev pub Odd : Type 0
+  Odd = (k : ℕ) × (k * 6 + 6 ≤ length v) × ((snr_of (get_or v (k * 6 + 5) 0)).odd ≡ 0 → ⊥)
+
+  odd_entry : Odd → false ≡ all_even v
+  odd_entry o = by (all_even v) refl
+    where
+      by : (t : Bool) → all_even v ≡ t → false ≡ t
+      by true p = absurd (o.2 (even_entries.0 p o.0 o.1))
+      by false p = refl
+
+-- an iterator over the entries, where a test asks for the odd bits of each: what `all` answers
+module _ {S : Type 0} {steps : S → Option (Bor (List ℕ)) → S → Type 0} (p : Run steps) (v : List ℕ) (chunks : ItemsMapToExactChunks p (λ x. x.now) 6 v) where
+  abbrev pub sixth : Bor (List ℕ) → ℕ
+  sixth x = get_or x.now 5 0
+
+  even_at_lem : p.whole ≡ true → AllItems p (λ x. (snr_of (sixth x)).odd ≡ 0) → Even v
+  even_at_lem w a k l = by (p.at k) (read p.items refl) (a k) (chunks.2 k)
+    where
+      -- the item there
+      read : (xs : List (Bor (List ℕ))) → p.items ≡ xs → option_len (p.at k) ≡ 1
+      read [] e = let n = chunks.1 w in let m = p.long ∙ ap length e in absurd (omega arith)
+      read (d ∷ xs) e = let n = chunks.1 w in let r = p.reads k d (omega arith) in one (p.at k) r
+        where
+          one : {y : Bor (List ℕ)} (o : Option (Bor (List ℕ))) → option_map (λ y. y) o ≡ Some y → option_len o ≡ 1
+          one None r = cc
+          one (Some x) r = refl
+
+      by : (o : Option (Bor (List ℕ))) → option_len o ≡ 1 → IfSome o (λ x. (snr_of (sixth x)).odd ≡ 0)
+          → IfSome o (λ x. (length x.now ≡ 6) × (k * 6 + 6 ≤ length v) × IsSubsliceAt 6 v (k * 6) x.now) → (snr_of (get_or v (k * 6 + 5) 0)).odd ≡ 0
+      by None r z i = absurd (omega arith)
+      by (Some x) r z i = rw (sym (i.2.2 5 0 (omega arith))) z
+
+  odd_at_lem : AnyItem p (λ x. (snr_of (sixth x)).odd ≡ 0 → ⊥) → Odd v
+  odd_at_lem a = let k = a.0 in by k (p.at k) a.2 (chunks.2 k)
+    where
+      by : (k : ℕ) (o : Option (Bor (List ℕ))) → IsSomeAnd o (λ x. (snr_of (sixth x)).odd ≡ 0 → ⊥)
+          → IfSome o (λ x. (length x.now ≡ 6) × (k * 6 + 6 ≤ length v) × IsSubsliceAt 6 v (k * 6) x.now) → Odd v
+      by k None z i = absurd z
+      by k (Some x) z i = (k, i.1, rw (sym (i.2.2 5 0 (omega arith))) z)
+
+  pub tests_even : (r : Bool) → MatchBool r (IsTrue p.whole × AllItems p (λ x. (snr_of (sixth x)).odd ≡ 0)) (AnyItem p (λ x. (snr_of (sixth x)).odd ≡ 0 → ⊥)) → r ≡ all_even v
+  tests_even true m = sym ((even_entries v).1 (even_at_lem m.0 m.1))
+  tests_even false m = odd_entry v (odd_at_lem m)
 
 -- bytes are written as they are exactly if their odd bits are 0
 byte_even : (i b : ℕ) → (is_even i b ≡ true → entry_byte i b ≡ b) × (entry_byte i b ≡ b → is_even i b ≡ true)
