@@ -11,7 +11,7 @@ use native.Mathlib.Omega.{arith}
 use borrow.Author.Tests.{lt-ltb, le-ltb, ltb-true, ltb-false, eqb-true, eq-eqb}
 use lib.Dec.{ltb, eqb}
 use lib.ListN.{length, take, drop, set, length-append, take-append-drop, length-set, length-drop, get_or}
-use lib.Seq.{take-suc-set, slice, slice_empty, slice-cons, length-slice, length-take-le, take-set-lt, drop-set-lt, take-take, take-length, drop-append-le, drop-drop, drop-nil}
+use lib.Seq.{take-suc-set, slice, slice_empty, slice-cons, length-slice, length-take-le, take-set-lt, drop-set-lt, take-take, drop-append-le, drop-drop, drop-nil}
 use Rattle.fields.specs.Header.{code_of}
 use Rattle.fields.specs.declared.header.PayloadType.{PayloadType}
 use Rattle.fields.specs.declared.header.PayloadType.TheVariants.{Uplink, Downlink, Event, Command}
@@ -21,7 +21,8 @@ use Rattle.cache.specs.declared.ring.CacheAnswer.{CacheAnswer}
 use Rattle.cache.specs.declared.ring.CacheAnswer.TheVariants.{New, Seen}
 use Rattle.cache.specs.Cache.{same_record, head_word, pack_of, type_by_code, unpack_of, has, push, step, answers, last_of, answers_last}
 use Rattle.cache.specs.inner.Ring.{new_of, ring_count, ring_place, pushed_of, added_of, ring_answers, contents}
-use Rattle.cache.proofs.Steps.{has_append, has_there}
+use Rattle.std.proofs.lemmas.List.Folds.{list_any_at}
+use Rattle.cache.proofs.Steps.{has_any, has_append}
 
 cases : (m n : ℕ) → (m < n) ⊎ (n ≤ m)
 cases m n = go (ltb m n) refl
@@ -94,10 +95,7 @@ has_at (x ∷ xs) r e = go (has_at xs r) (same_record x r) refl
 
 pub has_is : (l : List PayloadCache) (r : PayloadCache)
     → (has l r ≡ true → (i : ℕ) × ((i < length l) × (get_or l i r ≡ r))) × ((i : ℕ) → i < length l → get_or l i r ≡ r → has l r ≡ true)
-has_is l r = (
-  has_at l r,
-  λ i h e. ap (λ (k : List PayloadCache). has k r) (sym (take-length l)) ∙ has_there l i (length l) r r h (le_refl (length l)) ((same_is (get_or l i r) r).1 e),
-)
+has_is l r = (has_at l r, λ i h e. has_any l r ∙ list_any_at (λ s. same_record s r) l i r h ((same_is (get_or l i r) r).1 e))
 
 -- ---- words: three of a record, whose uplink id fits 16 bits; the other two fields are words as they are
 

@@ -50,6 +50,7 @@ fn type_by_code(code: u8) -> PayloadType
 
 impl PayloadCache {
     // The type is the header's, the rest goes by the payload's kind.
+    #[tactic(auto, unfolding(crate::specs::Cache::record_of))]
     pub fn from_packet(p: MeshPacket) -> PayloadCache
         ensures { result ≡ record_of p }
     {
@@ -64,6 +65,7 @@ impl PayloadCache {
         }
     }
 
+    #[tactic(auto, unfolding(crate::specs::Cache::same_record))]
     pub fn same(self, other: PayloadCache) -> bool
         ensures { result ≡ same_record self other }
     {
@@ -76,6 +78,7 @@ impl PayloadCache {
     }
 
     // The record as words, for a cache that lies in words: type and uplink id share the first. Every word has a meaning back.
+    #[tactic(auto, unfolding(crate::specs::Cache::pack_of))]
     pub fn pack(self) -> [u32; 3]
         ensures { result ≡ pack_of self }
     {
@@ -88,6 +91,7 @@ impl PayloadCache {
         ]
     }
 
+    #[tactic(auto, unfolding(crate::specs::Cache::unpack_of))]
     pub fn unpack(w: [u32; 3]) -> PayloadCache
         ensures { result ≡ unpack_of w }
     {
@@ -98,5 +102,14 @@ impl PayloadCache {
             timestamp: w[1],
             relay_id: w[2],
         }
+    }
+}
+
+// As the Rust has it.
+impl From<MeshPacket> for PayloadCache {
+    ghost from_gives = { λ p r. r ≡ record_of p };
+
+    fn from(p: MeshPacket) -> PayloadCache {
+        PayloadCache::from_packet(p)
     }
 }

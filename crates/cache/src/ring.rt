@@ -1,6 +1,8 @@
 // The cache of the last records: a ring of at most 64. Every value of its numbers has a meaning, so that no call has a `requires`: a size
 // of 0 or over 64 is refused, a length counts up to the size, and the next place is taken modulo the size.
-ghost use Rattle.std.specs.Prelude.{◌≡◌};
+ghost use Rattle.std.specs.Prelude.{◌≡◌, take};
+ghost use Rattle.std.specs.List.{list_any};
+ghost use Rattle.cache.specs.Cache.{same_record};
 ghost use Rattle.cache.specs.inner.Ring.{empty_ring, new_of, refused_by, added_of};
 
 use crate::record::PayloadCache;
@@ -65,16 +67,11 @@ fn refuse_size(cache: Cache) -> Added
 }
 
 impl Cache {
+    #[tactic(auto, unfolding(crate::specs::inner::Ring::new_of))]
     pub fn new(size: usize) -> CacheNew
         ensures { result ≡ new_of size }
     {
-        if size < Limit::CACHE_LEAST {
-            return CacheNew {
-                answer: Checked::Refused(Refusal::CACHE_SIZE),
-                cache: empty(0),
-            };
-        }
-        if Limit::CACHE < size {
+        if !(Limit::CACHE_LEAST..=Limit::CACHE).contains(&size) {
             return CacheNew {
                 answer: Checked::Refused(Refusal::CACHE_SIZE),
                 cache: empty(0),
@@ -86,28 +83,28 @@ impl Cache {
         }
     }
 
+    // Whether one of the first n records is r.
+    fn holds(&self, r: PayloadCache, n: usize) -> bool
+        ensures { result ≡ list_any (λ s. same_record s r) (take n self.now.slots) }
+    {
+        self.slots.iter().take(n).any(|s| s.same(r))
+    }
+
     // A record that is there changes nothing; any other takes the next place, which is the oldest's where the ring is full.
+    #[tactic(auto, unfolding(crate::specs::inner::Ring::added_of))]
     pub fn added(self, r: PayloadCache) -> Added
         ensures { result ≡ added_of self r }
     {
         let size = self.size;
-        if size < Limit::CACHE_LEAST {
-            return refuse_size(self);
-        }
-        if Limit::CACHE < size {
+        if !(Limit::CACHE_LEAST..=Limit::CACHE).contains(&size) {
             return refuse_size(self);
         }
         let n = least(self.len, size);
-        let mut i = 0;
-        while i < n {
-            let s = self.slots[i];
-            i += 1;
-            if s.same(r) {
-                return Added {
-                    answer: CacheAnswer::Seen,
-                    cache: self,
-                };
-            }
+        if self.holds(r, n) {
+            return Added {
+                answer: CacheAnswer::Seen,
+                cache: self,
+            };
         }
         let at = self.next % size;
         let mut slots = self.slots;
