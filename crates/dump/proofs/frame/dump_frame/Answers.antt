@@ -18,4 +18,4 @@ pub returns-in-Lora : goal.returns-in-Lora
 returns-in-Lora c = (let both = same_frame _ _ _ _ _ (ap bytes (text_of _ _ (ap PacketIs (sym c.in-Lora.is) ∙ sym c.in-Packet.is ∙ c.from_slice.ensures))) (c.write_counted.ensures.answer, c.write_counted.ensures.bytes) in record { answer = both.0; bytes = both.1 })
 
 pub returns-in-Mesh : goal.returns-in-Mesh
-returns-in-Mesh c = (let both = same_frame _ _ _ _ _ (ap bytes (text_of _ _ (ap PacketIs (sym c.in-Mesh.is) ∙ sym c.in-Packet.is ∙ c.from_slice.ensures))) (c.write_mesh.ensures.answer, c.write_mesh.ensures.bytes) in record { answer = both.0; bytes = both.1 })
+returns-in-Mesh c = (let both = same_frame _ _ _ _ _ (ap bytes (text_of _ _ (ap PacketIs (sym c.in-Mesh.is) ∙ sym c.in-Packet.is ∙ c.from_slice.ensures))) (c.write_text.ensures.answer, c.write_text.ensures.bytes) in record { answer = both.0; bytes = both.1 })

@@ -7,12 +7,8 @@ use Rattle.links.proofs.Steps.{same_frame}
 use Rattle.base.specs.Answers.{bytes}
 use Rattle.dump.specs.Dump.{line_of}
 use Rattle.dump.specs.Ascii.{ascii}
-use Rattle.dump.proofs.Laws.Text.{mic_tail, mic_none}
+use Rattle.dump.proofs.Laws.Text.{mic_tail}
 use Rattle.dump.proofs.frame.write_link.Goals as goal
-
-pub returns-then-not-has_mic : goal.returns-then-not-has_mic
-returns-then-not-has_mic c = let a = c.args in
-    (let both = same_frame _ _ _ _ _ (ap (λ (l : List ℕ). bytes (line_of a.t a.hops (ascii ", uplink_id: ") a.id a.relay l a.odd)) (mic_none a.has_mic a.mic (ap not c.if-not-has_mic.true))) (c.write_line.ensures.answer, c.write_line.ensures.bytes) in record { answer = both.0; bytes = both.1 })
 
 pub returns : goal.returns
 returns c = let a = c.args in
