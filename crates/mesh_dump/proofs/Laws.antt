@@ -3,12 +3,17 @@ use Prim.Native.Nat.{ℕ, suc, ◌+◌, ◌-◌, ◌*◌, ◌≤◌, ◌<◌}
 use native.Mathlib.Numerals.{add-one}
 use native.Mathlib.Omega.{arith}
 use mathlib.Core.Path.{◌≡◌, refl, sym, ap, ◌∙◌}
-use mathlib.Core.Bool.{Bool, true, false}
+use mathlib.Core.Bool.{Bool, true, false, cond}
+use Rattle.std.specs.Prelude.{Some, None}
+use Rattle.std.specs.declared.option.Option.{Option}
+use Rattle.std.specs.Option.{unwrap_or}
+use Rattle.std.specs.List.{position, position_or_len}
+use Rattle.std.proofs.lemmas.List.Recursion.{is_position_or_len}
 use mathlib.Core.List.{List, [], ◌∷◌, ◌++◌, append-nil, append_assoc}
 use lib.Dec.{ltb, eqb}
-use lib.ListN.{length, take, drop, get_or, replicate, length-append, length-drop, length-replicate, get_or-replicate, drop_of_length-le}
-use lib.Seq.{append_snoc, drop-cons, drop-drop, take_at}
-use borrow.Author.Tests.{lt-ltb, le-ltb, ltb-true, eq-eqb, ne_eqb}
+use lib.ListN.{length, take, drop, replicate, length-append, length-drop, length-replicate, get_or-replicate, drop_of_length-le}
+use lib.Seq.{append_snoc, drop-cons, drop-drop, take_at, take_all}
+use borrow.Author.Tests.{lt-ltb, le-ltb, ltb-true, ltb-false, ne_eqb}
 use Rattle.base.specs.Pick.{pick}
 use Rattle.base.specs.Lists.{joined}
 use Rattle.base.specs.Answers.{bytes, answer_of, out_of}
@@ -56,39 +61,34 @@ pub dump_first : (s : List ℕ) → 1 ≤ length s → dump_of s ≡ line_out (f
 unfolding dump_of joined
 dump_first s h = ap (joined line_out) (lines_first [] s (omega arith))
 
--- ---- the loop that looks for a newline: what is left gives the same place
+-- ---- it ends where the first newline is, or with the whole
 
-pub record Looking (s : List ℕ) (from i : ℕ) : Type 0 where
-  pub within : i ≤ length s
-  pub same : from + length (first_line (drop from s)) ≡ i + length (first_line (drop i s))
+first_cons : (x : ℕ) (s : List ℕ) → length (first_line (x ∷ s)) ≡ cond (eqb x 10) 0 (1 + length (first_line s))
+unfolding first_line
+first_cons x s = by (eqb x 10)
+  where
+    by : (t : Bool) → length (pick t [] (x ∷ first_line s)) ≡ cond t 0 (1 + length (first_line s))
+    by true = refl
+    by false = omega arith
 
-pub looking_none : (s : List ℕ) (from : ℕ) → from ≤ length s → Looking s from from
-looking_none s from h = record { within = h; same = refl }
+first_none : length (first_line []) ≡ 0
+unfolding first_line
+first_none = refl
 
-module _ (s : List ℕ) (from i : ℕ) (l : Looking s from i) where
-  pub looking_more : i < length s → (get_or s i 0 ≡ 10 → ⊥) → Looking s from (i + 1)
-  unfolding first_line
-  looking_more h n =
-      let d : drop i s ≡ get_or s i 0 ∷ drop (i + 1) s = rw (add-one, drop-cons s i 0) in
-      let f : length (first_line (drop i s)) ≡ suc (length (first_line (drop (i + 1) s))) = rw d (simp (ne_eqb (get_or s i 0) 10 n)) in
-      let e = l.same in
-      record { within = omega arith; same = omega arith }
+pub first_at : (s : List ℕ) (o : Option ℕ) (n : ℕ) → o ≡ position (λ b. eqb b 10) s → n ≡ length s → unwrap_or o n ≡ length (first_line s)
+first_at s o n e l = rw (e, l) (by (ltb (position_or_len (λ b. eqb b 10) s) (length s)) refl)
+  where
+    at : length (first_line s) ≡ position_or_len (λ b. eqb b 10) s
+    at = is_position_or_len (λ s. length (first_line s)) (λ b. eqb b 10) first_none first_cons s
 
-  pub looking_found : i < length s → get_or s i 0 ≡ 10 → i ≡ from + length (first_line (drop from s))
-  unfolding first_line
-  looking_found h n =
-      let d : drop i s ≡ get_or s i 0 ∷ drop (i + 1) s = rw (add-one, drop-cons s i 0) in
-      let f : length (first_line (drop i s)) ≡ 0 = rw d (simp (eq-eqb (get_or s i 0) 10 n)) in
-      let e = l.same in
-      omega arith
+    by : (t : Bool) → ltb (position_or_len (λ b. eqb b 10) s) (length s) ≡ t
+        → unwrap_or (cond t (Some (position_or_len (λ b. eqb b 10) s)) None) (length s) ≡ length (first_line s)
+    by true q = sym at
+    by false q = let a = ltb-false _ _ q in let m = first_most s in let f = at in omega arith
 
-  pub looking_end : length s ≤ i → i ≡ from + length (first_line (drop from s))
-  unfolding first_line
-  looking_end h =
-      let d : drop i s ≡ [] = drop_of_length-le s h in
-      let f : length (first_line (drop i s)) ≡ 0 = rw d refl in
-      let e = l.same in
-      omega arith
+-- in what is left of the input from a place on
+pub end_is : (s : List ℕ) (n k : ℕ) → k ≡ length (first_line (take (length s - n) (drop n s))) → n + k ≡ n + length (first_line (drop n s))
+end_is s n k e = ap (λ (j : ℕ). n + j) (e ∙ ap (λ (l : List ℕ). length (first_line l)) (take_all (length s - n) (drop n s) (omega (arith, length-drop n s))))
 
 -- ---- one line: its text in an array of newlines
 

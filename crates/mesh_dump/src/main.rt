@@ -24,19 +24,13 @@ const NEWLINE: u8 = b'\n';
 // A line's text, at most 90 bytes, and its newline.
 const LINE: usize = 91;
 
-// Where the line from a place on ends: at its newline, or at the input's end.
-fn line_end(input: &[u8], from: usize) -> usize
-    requires { from ≤ length input.now }
-    ensures { result ≡ from + length (first_line (drop from input.now)) }
+// Where the first line of what is left of the input ends: at its newline, or with the input.
+fn line_end(rest: &[u8]) -> usize
+    ensures { result ≡ length (first_line rest.now) }
 {
-    let mut i = from;
-    while i < input.len() {
-        if input[i] == NEWLINE {
-            return i;
-        }
-        i += 1;
-    }
-    i
+    rest.iter()
+        .position(|b| *b == NEWLINE)
+        .unwrap_or(rest.len())
 }
 
 // The text of a line and its newline from a place of out on, and how long they are. The array holds newlines, so one follows the text.
@@ -69,8 +63,9 @@ fn fill_lines(input: &[u8], from: usize, out: &mut [u8]) -> Filled
 {
     let mut len: usize = 0;
     let mut next = from;
+    // a `for` over the lines would count their places by hand too, since the next bufferful begins at one
     while next < input.len() && LINE <= out.len() - len {
-        let end = line_end(input, next);
+        let end = next + line_end(&input[next..]);
         len += put_line(part(input, next, end - next), out, len);
         next = end + 1;
     }
@@ -99,6 +94,7 @@ fn print<W: Write>(input: &[u8], to: &mut W) -> io::Result<()>
 {
     let mut out = [0u8; 16384];
     let mut next: usize = 0;
+    // each turn goes on where `fill` ended, which no range or iterator of std does
     while next < input.len() {
         let filled = fill(input, next, &mut out);
         to.write_all(part(&out, 0, filled.len))?;
@@ -114,6 +110,7 @@ fn read_input<R: Read>(from: &mut R, buf: &mut [u8]) -> io::Result<usize>
     ensures end { IfOk result (λ n. n < length buf.new → IsAtEnd (R.remaining from.new)) }
 {
     let mut n: usize = 0;
+    // no heap for `read_to_end`, and `read_exact` does not say how much there was of an input that ends before
     while n < buf.len() {
         let more = from.read(&mut buf[n..])?;
         if more == 0 {
