@@ -77,7 +77,8 @@ impl PayloadCache {
             & (self.relay_id == other.relay_id)
     }
 
-    // The record as words, for a cache that lies in words: type and uplink id share the first. Every word has a meaning back.
+    // The record as words, for a cache that lies in words: type and uplink id share the first. Every word has a meaning back, so that the way back
+    // is no inverse, as `From` would have it read.
     #[tactic(auto, unfolding(crate::specs::Cache::pack_of))]
     pub fn pack(self) -> [u32; 3]
         ensures { result ≡ pack_of self }

@@ -1,5 +1,6 @@
 // The cache of the last records: a ring of at most 64. Every value of its numbers has a meaning, so that no call has a `requires`: a size
-// of 0 or over 64 is refused, a length counts up to the size, and the next place is taken modulo the size.
+// of 0 or over 64 is refused, a length counts up to the size, and the next place is taken modulo the size. An array with a length beside, since
+// it lies in fixed memory and is copied.
 ghost use Rattle.std.specs.Prelude.{◌≡◌, take};
 ghost use Rattle.std.specs.List.{list_any};
 ghost use Rattle.cache.specs.Cache.{same_record};

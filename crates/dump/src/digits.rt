@@ -19,6 +19,7 @@ fn digits_of(n: u32) -> Digits
     let mut bytes = [0u8; 10];
     let mut at: usize = 9;
     let mut rest = n;
+    // a `for` over the places would need an answer for more than ten digits, which no u32 has
     while 10 <= rest {
         bytes[at] = b'0' + (rest % 10) as u8;
         at -= 1;
