@@ -14,16 +14,16 @@ use Rattle.heartbeats.proofs.heartbeat.HeartbeatPayload.write.Kinds as write_kin
 use Rattle.heartbeats.proofs.heartbeat.HeartbeatPayload.write.Reads as write_reads
 use Rattle.heartbeats.proofs.path.held.Kinds as held_kinds
 use Rattle.heartbeats.proofs.path.held.Reads as held_reads
-use Rattle.heartbeats.proofs.path.path_count.Kinds as path_count_kinds
-use Rattle.heartbeats.proofs.path.path_count.Reads as path_count_reads
-use Rattle.heartbeats.proofs.path.entry.Kinds as path_entry_kinds
-use Rattle.heartbeats.proofs.path.entry.Reads as path_entry_reads
-use Rattle.heartbeats.proofs.path.bad_run.Kinds as bad_run_kinds
-use Rattle.heartbeats.proofs.path.bad_run.Reads as bad_run_reads
-use Rattle.heartbeats.proofs.path.put_path.Kinds as put_path_kinds
-use Rattle.heartbeats.proofs.path.put_path.Reads as put_path_reads
-use Rattle.heartbeats.proofs.path.write_path.Kinds as write_path_kinds
-use Rattle.heartbeats.proofs.path.write_path.Reads as write_path_reads
+use Rattle.heartbeats.proofs.path.Paths.count.Kinds as path_count_kinds
+use Rattle.heartbeats.proofs.path.Paths.count.Reads as path_count_reads
+use Rattle.heartbeats.proofs.path.Paths.entry.Kinds as path_entry_kinds
+use Rattle.heartbeats.proofs.path.Paths.entry.Reads as path_entry_reads
+use Rattle.heartbeats.proofs.path.Paths.bad_run.Kinds as bad_run_kinds
+use Rattle.heartbeats.proofs.path.Paths.bad_run.Reads as bad_run_reads
+use Rattle.heartbeats.proofs.path.Paths.put.Kinds as put_path_kinds
+use Rattle.heartbeats.proofs.path.Paths.put.Reads as put_path_reads
+use Rattle.heartbeats.proofs.path.Paths.write.Kinds as write_path_kinds
+use Rattle.heartbeats.proofs.path.Paths.write.Reads as write_path_reads
 
 check : Fixed 1 check_kinds.ps check_kinds.r check_reads.Post
 check κs a x y v w p q = (p ∙ sym q, refl)
@@ -40,17 +40,17 @@ write κs a x y v w p q = (p.0 ∙ sym q.0, ap (λ (l : List ℕ). (tt, (l, tt))
 held : Fixed 0 held_kinds.ps held_kinds.r held_reads.Post
 held κs a x y v w p q = (p ∙ sym q, refl)
 
-path_count_lem : Fixed 3 path_count_kinds.ps path_count_kinds.r path_count_reads.Post
+path_count_lem : Fixed 2 path_count_kinds.ps path_count_kinds.r path_count_reads.Post
 path_count_lem κs a x y v w p q = (p ∙ sym q, refl)
 
-path_entry : Fixed 3 path_entry_kinds.ps path_entry_kinds.r path_entry_reads.Post
+path_entry : Fixed 2 path_entry_kinds.ps path_entry_kinds.r path_entry_reads.Post
 path_entry κs a x y v w p q = (p ∙ sym q, refl)
 
-bad_run : Fixed 3 bad_run_kinds.ps bad_run_kinds.r bad_run_reads.Post
+bad_run : Fixed 2 bad_run_kinds.ps bad_run_kinds.r bad_run_reads.Post
 bad_run κs a x y v w p q = (p ∙ sym q, refl)
 
-put_path : Fixed 4 put_path_kinds.ps put_path_kinds.r put_path_reads.Post
-put_path κs a x y v w p q = (refl, ap (λ (l : List ℕ). (tt, (tt, (tt, (tt, (tt, (l, (tt, tt)))))))) (p ∙ sym q))
+put_path : Fixed 3 put_path_kinds.ps put_path_kinds.r put_path_reads.Post
+put_path κs a x y v w p q = (refl, ap (λ (l : List ℕ). (tt, (tt, (l, (tt, tt))))) (p ∙ sym q))
 
-write_path : Fixed 4 write_path_kinds.ps write_path_kinds.r write_path_reads.Post
-write_path κs a x y v w p q = (p.0 ∙ sym q.0, ap (λ (l : List ℕ). (tt, (tt, (tt, (l, tt))))) (p.1 ∙ sym q.1))
+write_path : Fixed 3 write_path_kinds.ps write_path_kinds.r write_path_reads.Post
+write_path κs a x y v w p q = (p.0 ∙ sym q.0, ap (λ (l : List ℕ). (tt, (l, tt))) (p.1 ∙ sym q.1))

@@ -3,7 +3,7 @@ use Prim.Native.Nat.{ℕ, ◌+◌, ◌*◌, ◌<◌, ◌≤◌}
 use native.Mathlib.Omega.{arith}
 use mathlib.Core.Path.{◌≡◌, sym, ap, ◌∙◌}
 use mathlib.Core.List.{List, [], ◌++◌}
-use lib.ListN.{length, get_or, drop, length-append}
+use lib.ListN.{length, get_or, drop}
 use borrow.Author.Tests.{lt-ltb, le-ltb, ne_eqb}
 use Rattle.base.specs.Lists.{first_of, joined}
 use Rattle.base.specs.Numbers.{item_long, output_short, path_most}
@@ -13,7 +13,7 @@ use Rattle.base.specs.declared.Written.TheVariants.{Bytes, Refused}
 use Rattle.base.proofs.Answers.{no_room, room}
 use Rattle.base.proofs.Lists.{from_length, Passed, passed_more, passed_stop, passed_all, joined_more, joined_all}
 use Rattle.wire.specs.Lay.{put}
-use Rattle.wire.proofs.Laws.Lay.{put_none, put_front, Joining, joining_none, joining_room, joining_more, joining_done}
+use Rattle.wire.proofs.Laws.Lay.{put_none, put_front, Joining, joining_none, joining_more, joining_done}
 use Rattle.fields.specs.Path.{path_bytes, bad_entry, six_of}
 use Rattle.fields.specs.declared.path.PathBytes.{PathBytes}
 use Rattle.fields.specs.declared.path.RelayPath.{RelayPath}
@@ -61,17 +61,11 @@ module _ (l : PathLists) (place len k n : ℕ) (ek : k ≡ path_count l) (en : n
     pub six_ahead : joined six_of (drop i ps) ≡ w.bytes ++ joined six_of (drop (i + 1) ps)
     six_ahead = joined_more six_of ps i p in_run ∙ ap (λ (x : List ℕ). x ++ joined six_of (drop (i + 1) ps)) (ap six_of the_entry ∙ sym (told_six p w e))
 
-    module _ (o₀ out : List ℕ) (at o : ℕ) (j : Joining o₀ at all out o (joined six_of (drop i ps))) where
-      pub six_more : (out2 : List ℕ) → out2 ≡ put out (at + o) w.bytes → Joining o₀ at all out2 (o + 6) (joined six_of (drop (i + 1) ps))
-      six_more out2 q = joining_more o₀ at all out o _ j w.bytes (joined six_of (drop (i + 1) ps)) out2 6 six_ahead (sym six) q
-
-      pub six_room : at + o + 6 ≤ length o₀
-      six_room =
-          let r = joining_room o₀ at all out o _ j in
-          let a = ap length six_ahead in
-          let d = length-append w.bytes (joined six_of (drop (i + 1) ps)) in
-          let f = six in
-          omega arith
+    module _ (o₀ out : List ℕ) (at : ℕ) (j : Joining o₀ at all out (6 * i) (joined six_of (drop i ps))) where
+      pub six_more : (out2 : List ℕ) → out2 ≡ put out (at + 6 * i) w.bytes → Joining o₀ at all out2 (6 * (i + 1)) (joined six_of (drop (i + 1) ps))
+      six_more out2 q =
+          let e : 6 * (i + 1) ≡ 6 * i + 6 = omega arith in
+          rw e (joining_more o₀ at all out (6 * i) _ j w.bytes (joined six_of (drop (i + 1) ps)) out2 6 six_ahead (sym six) q)
 
   pub path_all : (i : ℕ) → n ≤ i → Passed bad_entry ps i → 0 ≡ first_of bad_entry ps
   path_all i h w = passed_all bad_entry ps i (rw run_count h) w

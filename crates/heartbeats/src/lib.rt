@@ -6,4 +6,4 @@ mod heartbeat;
 mod path;
 
 pub use heartbeat::{HeartbeatPayload, HeartbeatRead, PathRead};
-pub use path::{bad_run, entry, held, path_count, put_path, write_path};
+pub use path::{Paths, held};
