@@ -14,8 +14,8 @@ use Rattle.fields.specs.Path.{six_of}
 use Rattle.heartbeats.specs.Paths.{PathLists, path_count, path_run, held_of}
 use Rattle.heartbeats.proofs.Loops.{path_bytes_lem}
 use Rattle.kept_items.specs.Kept.{headed}
-use Rattle.composed_items.specs.Composed.{Lists, lists, item_count, item_in, items_in, outside_of, bad_path, value_of, item_wire, composed_bytes}
-use Rattle.composed_items.specs.inner.Passes.{fault_of, total_of}
+use Rattle.composed_items.specs.Composed.{Lists, item_count, item_in, items_in, item_wire, composed_bytes}
+use Rattle.composed_items.specs.inner.Passes.{total_of}
 use Rattle.composed_items.specs.declared.Composed.{Composed}
 use Rattle.composed_items.specs.declared.Total.{Total}
 use Rattle.composed_items.specs.declared.Total.TheVariants.{Sum, Over}
@@ -40,12 +40,25 @@ module _ (l : PathLists) (start len k n : ℕ) (ek : k ≡ path_count l) (en : n
 
 -- ---- the items
 
--- what an item is read from, and what it is judged and written by
-abbrev rows : Lists → Lists
-rows l = lists l.kinds l.spans [] [] [] []
+module _ (count : ℕ) (l : Lists) (n : ℕ) (en : n ≡ min count (item_count l)) where
+  items_count : length (items_in l count) ≡ n
+  items_count = from_length (min count (item_count l)) 0 (item_in l) ∙ sym en
 
-abbrev lent : Lists → Lists
-lent l = record { kinds = []; spans = []; entries = l.entries; src = l.src }
+  module _ (i : ℕ) (it : Composed) (h : i < n) (e : it ≡ item_in l i) where
+    in_items : i < length (items_in l count)
+    in_items = rw items_count h
+
+    the_item : get_or (items_in l count) i it ≡ it
+    the_item = from_get (min count (item_count l)) (item_in l) it i (rw (← en) h) ∙ sym e
+
+    pub each_more : (f : Composed → ℕ) (r : ℕ) → r ≡ f it → r ≡ 0 → Passed f (items_in l count) i → Passed f (items_in l count) (i + 1)
+    each_more f r q z w = passed_more f (items_in l count) i it in_items (ap f the_item ∙ sym q ∙ z) w
+
+    pub each_stop : (f : Composed → ℕ) (r : ℕ) → r ≡ f it → (r ≡ 0 → ⊥) → Passed f (items_in l count) i → r ≡ first_of f (items_in l count)
+    each_stop f r q z w = passed_stop f (items_in l count) i it r in_items (ap f the_item ∙ sym q) z w
+
+  pub each_all : (f : Composed → ℕ) (i : ℕ) → n ≤ i → Passed f (items_in l count) i → 0 ≡ first_of f (items_in l count)
+  each_all f i h w = passed_all f (items_in l count) i (rw items_count h) w
 
 -- a sum of what the first i give, which is not over
 pub record Summing {A : Type 0} (f : A → List ℕ) (xs : List A) (most i sum : ℕ) : Type 0 where
@@ -53,15 +66,6 @@ pub record Summing {A : Type 0} (f : A → List ℕ) (xs : List A) (most i sum :
   pub rest : sum + length (joined f (drop i xs)) ≡ length (joined f xs)
 
 module _ (ev : Bool) (count : ℕ) (l : Lists) where
-  -- what an item gives does not depend on which lists it is from
-  pub same_fault : (pass : ℕ) (it : Composed) → fault_of pass ev (lent l) it ≡ fault_of pass ev l it
-  unfolding fault_of outside_of bad_path
-  same_fault pass it = refl
-
-  pub same_wire : (it : Composed) → item_wire ev (lent l) it ≡ item_wire ev l it
-  unfolding item_wire value_of
-  same_wire it = refl
-
   pub sum_none : (most : ℕ) → Summing (item_wire ev l) (items_in l count) most 0 0
   sum_none most = record { small = omega arith; rest = omega arith }
 
@@ -79,37 +83,11 @@ module _ (ev : Bool) (count : ℕ) (l : Lists) where
   item_begin o₀ at t m h e q = let k = within_told (length o₀ - at) (length (composed_bytes ev l count)) m (sym e ∙ q) in joining_none o₀ at (composed_bytes ev l count) (omega arith)
 
   module _ (n : ℕ) (en : n ≡ min count (item_count l)) where
-    items_count : length (items_in l count) ≡ n
-    items_count = from_length (min count (item_count l)) 0 (item_in l) ∙ sym en
-
-    module _ (i : ℕ) (it : Composed) (h : i < n) (e : it ≡ item_in (rows l) i) where
-      in_items : i < length (items_in l count)
-      in_items = rw items_count h
-
-      the_item : get_or (items_in l count) i it ≡ it
-      the_item = from_get (min count (item_count l)) (item_in l) it i (rw (← en) h) ∙ sym e
-
-      pub each_more : (f : Composed → ℕ) (r : ℕ) → r ≡ f it → r ≡ 0 → Passed f (items_in l count) i → Passed f (items_in l count) (i + 1)
-      each_more f r q z w = passed_more f (items_in l count) i it in_items (ap f the_item ∙ sym q ∙ z) w
-
-      pub each_stop : (f : Composed → ℕ) (r : ℕ) → r ≡ f it → (r ≡ 0 → ⊥) → Passed f (items_in l count) i → r ≡ first_of f (items_in l count)
-      each_stop f r q z w = passed_stop f (items_in l count) i it r in_items (ap f the_item ∙ sym q) z w
-
-      pub pass_more : (pass r : ℕ) → r ≡ fault_of pass ev (lent l) it → r ≡ 0 → Passed (fault_of pass ev l) (items_in l count) i
-          → Passed (fault_of pass ev l) (items_in l count) (i + 1)
-      pass_more pass r q z w = each_more (fault_of pass ev l) r (q ∙ same_fault pass it) z w
-
-      pub pass_stop : (pass r : ℕ) → r ≡ fault_of pass ev (lent l) it → (r ≡ 0 → ⊥) → Passed (fault_of pass ev l) (items_in l count) i
-          → r ≡ first_of (fault_of pass ev l) (items_in l count)
-      pass_stop pass r q z w = each_stop (fault_of pass ev l) r (q ∙ same_fault pass it) z w
-
+    module _ (i : ℕ) (it : Composed) (h : i < n) (e : it ≡ item_in l i) where
       pub ahead : joined (item_wire ev l) (drop i (items_in l count)) ≡ item_wire ev l it ++ joined (item_wire ev l) (drop (i + 1) (items_in l count))
-      ahead = joined_more (item_wire ev l) (items_in l count) i it in_items ∙ ap (λ (x : Composed). item_wire ev l x ++ joined (item_wire ev l) (drop (i + 1) (items_in l count))) the_item
+      ahead = joined_more (item_wire ev l) (items_in l count) i it (in_items count l n en i it h e) ∙ ap (λ (x : Composed). item_wire ev l x ++ joined (item_wire ev l) (drop (i + 1) (items_in l count))) (the_item count l n en i it h e)
 
-      module _ (m : ℕ) (em : m ≡ length (item_wire ev (lent l) it)) where
-        long : m ≡ length (item_wire ev l it)
-        long = em ∙ ap length (same_wire it)
-
+      module _ (m : ℕ) (long : m ≡ length (item_wire ev l it)) where
         ahead_length : length (joined (item_wire ev l) (drop i (items_in l count))) ≡ m + length (joined (item_wire ev l) (drop (i + 1) (items_in l count)))
         ahead_length = ap length ahead ∙ length-append (item_wire ev l it) (joined (item_wire ev l) (drop (i + 1) (items_in l count))) ∙ rw (← long)
 
@@ -139,18 +117,14 @@ module _ (ev : Bool) (count : ℕ) (l : Lists) where
             let a = ahead_length in
             omega arith
 
-        pub item_more : (o₀ out out2 : List ℕ) (at o : ℕ) → out2 ≡ put out (at + o) (item_wire ev (lent l) it)
+        pub item_more : (o₀ out out2 : List ℕ) (at o : ℕ) → out2 ≡ put out (at + o) (item_wire ev l it)
             → Joining o₀ at (composed_bytes ev l count) out o (joined (item_wire ev l) (drop i (items_in l count)))
             → Joining o₀ at (composed_bytes ev l count) out2 (o + m) (joined (item_wire ev l) (drop (i + 1) (items_in l count)))
         item_more o₀ out out2 at o q j =
-            joining_more o₀ at _ out o _ j (item_wire ev l it) (joined (item_wire ev l) (drop (i + 1) (items_in l count))) out2 m ahead long
-            (q ∙ ap (put out (at + o)) (same_wire it))
+            joining_more o₀ at _ out o _ j (item_wire ev l it) (joined (item_wire ev l) (drop (i + 1) (items_in l count))) out2 m ahead long q
 
     pub none_left : (i : ℕ) → n ≤ i → joined (item_wire ev l) (drop i (items_in l count)) ≡ []
-    none_left i h = joined_all (item_wire ev l) (items_in l count) i (rw items_count h)
-
-    pub each_all : (f : Composed → ℕ) (i : ℕ) → n ≤ i → Passed f (items_in l count) i → 0 ≡ first_of f (items_in l count)
-    each_all f i h w = passed_all f (items_in l count) i (rw items_count h) w
+    none_left i h = joined_all (item_wire ev l) (items_in l count) i (rw (items_count count l n en) h)
 
     pub sum_all : (most i sum : ℕ) → n ≤ i → Summing (item_wire ev l) (items_in l count) most i sum
         → Sum sum ≡ total_of most (length (composed_bytes ev l count))

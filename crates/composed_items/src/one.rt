@@ -9,6 +9,7 @@ use items::{Item, ItemKind, is_beat};
 use kept_items::put_item;
 use wire::{Run, emit};
 
+#[tactic(auto, unfolding(crate::specs::One::strange_kind))]
 fn strange_kind(is_event: bool, kind: u8) -> bool
     ensures { result ≡ strange_kind is_event kind }
 {
@@ -22,6 +23,7 @@ fn strange_kind(is_event: bool, kind: u8) -> bool
 }
 
 // 29, 19 or 20 of a value of n bytes, or 0.
+#[tactic(auto, unfolding(crate::specs::One::one_refusal, items::specs::Items::bad_beat))]
 fn one_refusal(is_event: bool, kind: u8, tag: u8, n: usize) -> u8
     ensures { result ≡ one_refusal is_event kind tag n }
 {
@@ -31,11 +33,8 @@ fn one_refusal(is_event: bool, kind: u8, tag: u8, n: usize) -> u8
     if Limit::ITEM < n {
         return Refusal::ITEM_LONG;
     }
-    if is_beat(is_event, tag_of(kind, tag)) {
-        if n % Limit::ENTRY != 0 {
-            return Refusal::HEARTBEAT_LENGTH;
-        }
-        return 0;
+    if is_beat(is_event, tag_of(kind, tag)) && n % Limit::ENTRY != 0 {
+        return Refusal::HEARTBEAT_LENGTH;
     }
     0
 }

@@ -1,7 +1,4 @@
 -- `composed_items::one::write_item` meets its contract. Assumes nothing.
-use mathlib.Core.Path.{ap, ◌∙◌}
-use lib.ListN.{length}
-use Rattle.wire.proofs.Laws.Lay.{put_length}
 use Rattle.composed_items.proofs.Alone.{one_refused, one_short, one_laid}
 use Rattle.composed_items.proofs.one.write_item.Goals as goal
 
@@ -10,9 +7,6 @@ returns-then-refused-ne0 c = (let both = one_refused _ _ _ _ _ _ c.one_refusal-r
 
 pub returns-then-out-n : goal.returns-then-out-n
 returns-then-out-n c = (let both = one_short _ _ _ _ _ _ c.one_refusal-refused.ensures c.if-refused-ne0.false c.if-out-n.true in record { answer = both.0; bytes = both.1 })
-
-pub shape_of-out : goal.shape_of-out
-shape_of-out c = ap length c.put_item.ensures ∙ put_length _ _ _
 
 pub returns : goal.returns
 returns c = (let both = one_laid _ _ _ _ _ _ c.one_refusal-refused.ensures c.if-refused-ne0.false c.if-out-n.false _ _ _ c.tag_of-t.ensures c.is_beat.ensures c.put_item.ensures in record { answer = both.0; bytes = both.1 })
