@@ -49,6 +49,7 @@ impl Content {
     }
 
     // The payload's bytes as they lie, and none where they run outside; composed items lie nowhere yet.
+    #[tactic(auto, unfolding(crate::specs::Content::payload_of))]
     pub fn payload<'a>(self, frame: &'a [u8], work: &'a [u8]) -> &'a [u8]
         ensures { result.now ≡ payload_of self frame.now work.now }
     {

@@ -2,6 +2,8 @@
 #![tactic(auto)]
 
 mod content;
+mod lent;
 mod write;
 
 pub use content::{Content, Held, held_in};
+pub use lent::Lent;
