@@ -33,11 +33,11 @@ event_payload_from_slice κs a x y v w p q = (p ∙ sym q, refl)
 event_payload_head : Fixed 0 event_payload_head_kinds.ps event_payload_head_kinds.r event_payload_head_reads.Post
 event_payload_head κs a x y v w p q = (p ∙ sym q, refl)
 
-event_payload_write : Fixed 7 event_payload_write_kinds.ps event_payload_write_kinds.r event_payload_write_reads.Post
-event_payload_write κs a x y v w p q = (p.0 ∙ sym q.0, ap (λ (l : List ℕ). (tt, (tt, (tt, (tt, (tt, (tt, (tt, (tt, (l, tt)))))))))) (p.1 ∙ sym q.1))
+event_payload_write : Fixed 3 event_payload_write_kinds.ps event_payload_write_kinds.r event_payload_write_reads.Post
+event_payload_write κs a x y v w p q = (p.0 ∙ sym q.0, ap (λ (l : List ℕ). (tt, (tt, (l, tt)))) (p.1 ∙ sym q.1))
 
-event_payload_write_in : Fixed 7 event_payload_write_in_kinds.ps event_payload_write_in_kinds.r event_payload_write_in_reads.Post
-event_payload_write_in κs a x y v w p q = (p.0 ∙ sym q.0, ap (λ (l : List ℕ). (tt, (tt, (tt, (tt, (tt, (tt, (tt, (tt, (tt, (tt, (tt, (l, tt))))))))))))) (p.1 ∙ sym q.1))
+event_payload_write_in : Fixed 3 event_payload_write_in_kinds.ps event_payload_write_in_kinds.r event_payload_write_in_reads.Post
+event_payload_write_in κs a x y v w p q = (p.0 ∙ sym q.0, ap (λ (l : List ℕ). (tt, (tt, (tt, (tt, (tt, (l, tt))))))) (p.1 ∙ sym q.1))
 
 command_payload_read_at : Fixed 1 command_payload_read_at_kinds.ps command_payload_read_at_kinds.r command_payload_read_at_reads.Post
 command_payload_read_at κs a x y v w p q = (p ∙ sym q, refl)
@@ -48,8 +48,8 @@ command_payload_from_slice κs a x y v w p q = (p ∙ sym q, refl)
 command_payload_head : Fixed 0 command_payload_head_kinds.ps command_payload_head_kinds.r command_payload_head_reads.Post
 command_payload_head κs a x y v w p q = (p ∙ sym q, refl)
 
-command_payload_write : Fixed 7 command_payload_write_kinds.ps command_payload_write_kinds.r command_payload_write_reads.Post
-command_payload_write κs a x y v w p q = (p.0 ∙ sym q.0, ap (λ (l : List ℕ). (tt, (tt, (tt, (tt, (tt, (tt, (tt, (tt, (l, tt)))))))))) (p.1 ∙ sym q.1))
+command_payload_write : Fixed 3 command_payload_write_kinds.ps command_payload_write_kinds.r command_payload_write_reads.Post
+command_payload_write κs a x y v w p q = (p.0 ∙ sym q.0, ap (λ (l : List ℕ). (tt, (tt, (l, tt)))) (p.1 ∙ sym q.1))
 
-command_payload_write_in : Fixed 7 command_payload_write_in_kinds.ps command_payload_write_in_kinds.r command_payload_write_in_reads.Post
-command_payload_write_in κs a x y v w p q = (p.0 ∙ sym q.0, ap (λ (l : List ℕ). (tt, (tt, (tt, (tt, (tt, (tt, (tt, (tt, (tt, (tt, (tt, (l, tt))))))))))))) (p.1 ∙ sym q.1))
+command_payload_write_in : Fixed 3 command_payload_write_in_kinds.ps command_payload_write_in_kinds.r command_payload_write_in_reads.Post
+command_payload_write_in κs a x y v w p q = (p.0 ∙ sym q.0, ap (λ (l : List ℕ). (tt, (tt, (tt, (tt, (tt, (l, tt))))))) (p.1 ∙ sym q.1))

@@ -2,12 +2,11 @@
 ghost use Rattle.std.specs.Prelude.{◌≡◌};
 ghost use Rattle.base.specs.Answers.{answer_of, out_of};
 ghost use Rattle.links.specs.Write.{limited_of, prefixed, with_mic};
-ghost use Rattle.contents.specs.Content.{lent};
 ghost use Rattle.events.specs.Read.{stamped_at, event_at, command_at};
 ghost use Rattle.events.specs.Write.{stamp, stamped_of_event, stamped_of_command, event_wire, command_wire, stamped_wire};
 
 use base::{Limit, Refusal, Written};
-use contents::Content;
+use contents::{Content, Lent};
 use wire::{be32_bytes, be32_of, put_all};
 
 #[derive(Clone, Copy)]
@@ -75,27 +74,16 @@ impl Stamped {
         [t[0], t[1], t[2], t[3], r[0], r[1], r[2], r[3]]
     }
 
-    fn write<'a>(
-        self,
-        is_event: bool,
-        frame: &'a [u8],
-        work: &'a [u8],
-        kinds: &[[u8; 2]],
-        spans: &[[u32; 2]],
-        ids: &[u32],
-        rssis: &[i16],
-        snrs: &[i8],
-        out: &mut [u8],
-    ) -> Written
-        ensures answer { result ≡ answer_of (limited_of (stamped_wire is_event (lent frame.now work.now kinds.now spans.now ids.now rssis.now snrs.now) self)) out.old }
-        ensures bytes { out.new ≡ out_of (limited_of (stamped_wire is_event (lent frame.now work.now kinds.now spans.now ids.now rssis.now snrs.now) self)) out.old }
+    fn write(self, is_event: bool, lent: &Lent, out: &mut [u8]) -> Written
+        ensures answer { result ≡ answer_of (limited_of (stamped_wire is_event lent.now self)) out.old }
+        ensures bytes { out.new ≡ out_of (limited_of (stamped_wire is_event lent.now self)) out.old }
     {
         let content = self.content;
-        let bad = content.refusal(is_event, frame, work, kinds, spans, ids, rssis, snrs);
+        let bad = content.refusal(is_event, lent);
         if bad != 0 {
             return Written::Refused(bad);
         }
-        let n = content.size(is_event, frame, work, kinds, spans, ids, rssis, snrs);
+        let n = content.size(is_event, lent);
         if Limit::PAYLOAD < n {
             return Written::Refused(Refusal::FRAME_LONG);
         }
@@ -104,39 +92,31 @@ impl Stamped {
         }
         let h = self.head();
         put_all(&h, out, 0);
-        content.put(
-            is_event, frame, work, kinds, spans, ids, rssis, snrs, out, 8,
-        );
+        content.put(is_event, lent, out, 8);
         Written::Bytes(8 + n)
     }
 
-    fn write_in<'a>(
+    fn write_in(
         self,
         is_event: bool,
         first: u8,
         has_mic: bool,
         mic: u32,
-        frame: &'a [u8],
-        work: &'a [u8],
-        kinds: &[[u8; 2]],
-        spans: &[[u32; 2]],
-        ids: &[u32],
-        rssis: &[i16],
-        snrs: &[i8],
+        lent: &Lent,
         out: &mut [u8],
     ) -> Written
-        ensures answer { result ≡ answer_of (with_mic has_mic mic (prefixed first (stamped_wire is_event (lent frame.now work.now kinds.now spans.now ids.now rssis.now snrs.now) self))) out.old }
-        ensures bytes { out.new ≡ out_of (with_mic has_mic mic (prefixed first (stamped_wire is_event (lent frame.now work.now kinds.now spans.now ids.now rssis.now snrs.now) self))) out.old }
+        ensures answer { result ≡ answer_of (with_mic has_mic mic (prefixed first (stamped_wire is_event lent.now self))) out.old }
+        ensures bytes { out.new ≡ out_of (with_mic has_mic mic (prefixed first (stamped_wire is_event lent.now self))) out.old }
     {
         let content = self.content;
-        let bad = content.refusal(is_event, frame, work, kinds, spans, ids, rssis, snrs);
+        let bad = content.refusal(is_event, lent);
         if bad != 0 {
             return Written::Refused(bad);
         }
         if !has_mic {
             return Written::Refused(Refusal::MIC_MISSING);
         }
-        let n = content.size(is_event, frame, work, kinds, spans, ids, rssis, snrs);
+        let n = content.size(is_event, lent);
         if Limit::PAYLOAD < n {
             return Written::Refused(Refusal::FRAME_LONG);
         }
@@ -148,9 +128,7 @@ impl Stamped {
         let last = be32_bytes(mic);
         put_all(&byte, out, 0);
         put_all(&h, out, 1);
-        content.put(
-            is_event, frame, work, kinds, spans, ids, rssis, snrs, out, 9,
-        );
+        content.put(is_event, lent, out, 9);
         put_all(&last, out, 9 + n);
         Written::Bytes(13 + n)
     }
@@ -199,45 +177,27 @@ impl EventPayload {
     }
 
     // The body: 45, path entries, 19, 20, 5, 21.
-    pub fn write<'a>(
-        self,
-        frame: &'a [u8],
-        work: &'a [u8],
-        kinds: &[[u8; 2]],
-        spans: &[[u32; 2]],
-        ids: &[u32],
-        rssis: &[i16],
-        snrs: &[i8],
-        out: &mut [u8],
-    ) -> Written
-        ensures answer { result ≡ answer_of (limited_of (event_wire (lent frame.now work.now kinds.now spans.now ids.now rssis.now snrs.now) self)) out.old }
-        ensures bytes { out.new ≡ out_of (limited_of (event_wire (lent frame.now work.now kinds.now spans.now ids.now rssis.now snrs.now) self)) out.old }
+    pub fn write(self, lent: &Lent, out: &mut [u8]) -> Written
+        ensures answer { result ≡ answer_of (limited_of (event_wire lent.now self)) out.old }
+        ensures bytes { out.new ≡ out_of (limited_of (event_wire lent.now self)) out.old }
     {
-        self.stamped()
-            .write(true, frame, work, kinds, spans, ids, rssis, snrs, out)
+        self.stamped().write(true, lent, out)
     }
 
     // The frame around it, behind its header byte: 45, path entries, 19, 20, 27, 5, 21.
-    pub fn write_in<'a>(
+    pub fn write_in(
         self,
         first: u8,
         has_mic: bool,
         mic: u32,
-        frame: &'a [u8],
-        work: &'a [u8],
-        kinds: &[[u8; 2]],
-        spans: &[[u32; 2]],
-        ids: &[u32],
-        rssis: &[i16],
-        snrs: &[i8],
+        lent: &Lent,
         out: &mut [u8],
     ) -> Written
-        ensures answer { result ≡ answer_of (with_mic has_mic mic (prefixed first (event_wire (lent frame.now work.now kinds.now spans.now ids.now rssis.now snrs.now) self))) out.old }
-        ensures bytes { out.new ≡ out_of (with_mic has_mic mic (prefixed first (event_wire (lent frame.now work.now kinds.now spans.now ids.now rssis.now snrs.now) self))) out.old }
+        ensures answer { result ≡ answer_of (with_mic has_mic mic (prefixed first (event_wire lent.now self))) out.old }
+        ensures bytes { out.new ≡ out_of (with_mic has_mic mic (prefixed first (event_wire lent.now self))) out.old }
     {
-        self.stamped().write_in(
-            true, first, has_mic, mic, frame, work, kinds, spans, ids, rssis, snrs, out,
-        )
+        self.stamped()
+            .write_in(true, first, has_mic, mic, lent, out)
     }
 }
 
@@ -284,44 +244,26 @@ impl CommandPayload {
     }
 
     // The body: 45, path entries, 19, 20, 5, 21.
-    pub fn write<'a>(
-        self,
-        frame: &'a [u8],
-        work: &'a [u8],
-        kinds: &[[u8; 2]],
-        spans: &[[u32; 2]],
-        ids: &[u32],
-        rssis: &[i16],
-        snrs: &[i8],
-        out: &mut [u8],
-    ) -> Written
-        ensures answer { result ≡ answer_of (limited_of (command_wire (lent frame.now work.now kinds.now spans.now ids.now rssis.now snrs.now) self)) out.old }
-        ensures bytes { out.new ≡ out_of (limited_of (command_wire (lent frame.now work.now kinds.now spans.now ids.now rssis.now snrs.now) self)) out.old }
+    pub fn write(self, lent: &Lent, out: &mut [u8]) -> Written
+        ensures answer { result ≡ answer_of (limited_of (command_wire lent.now self)) out.old }
+        ensures bytes { out.new ≡ out_of (limited_of (command_wire lent.now self)) out.old }
     {
-        self.stamped()
-            .write(false, frame, work, kinds, spans, ids, rssis, snrs, out)
+        self.stamped().write(false, lent, out)
     }
 
     // The frame around it, behind its header byte: 45, path entries, 19, 20, 27, 5, 21.
-    pub fn write_in<'a>(
+    pub fn write_in(
         self,
         first: u8,
         has_mic: bool,
         mic: u32,
-        frame: &'a [u8],
-        work: &'a [u8],
-        kinds: &[[u8; 2]],
-        spans: &[[u32; 2]],
-        ids: &[u32],
-        rssis: &[i16],
-        snrs: &[i8],
+        lent: &Lent,
         out: &mut [u8],
     ) -> Written
-        ensures answer { result ≡ answer_of (with_mic has_mic mic (prefixed first (command_wire (lent frame.now work.now kinds.now spans.now ids.now rssis.now snrs.now) self))) out.old }
-        ensures bytes { out.new ≡ out_of (with_mic has_mic mic (prefixed first (command_wire (lent frame.now work.now kinds.now spans.now ids.now rssis.now snrs.now) self))) out.old }
+        ensures answer { result ≡ answer_of (with_mic has_mic mic (prefixed first (command_wire lent.now self))) out.old }
+        ensures bytes { out.new ≡ out_of (with_mic has_mic mic (prefixed first (command_wire lent.now self))) out.old }
     {
-        self.stamped().write_in(
-            false, first, has_mic, mic, frame, work, kinds, spans, ids, rssis, snrs, out,
-        )
+        self.stamped()
+            .write_in(false, first, has_mic, mic, lent, out)
     }
 }

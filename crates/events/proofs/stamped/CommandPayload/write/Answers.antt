@@ -5,7 +5,6 @@ use mathlib.Core.Bool.{false}
 use Rattle.base.proofs.Answers.{out_length}
 use Rattle.links.specs.Write.{limited_of}
 use Rattle.links.proofs.Steps.{same_frame}
-use Rattle.contents.specs.Content.{lent}
 use Rattle.events.specs.Write.{stamped_wire, command_wire}
 use Rattle.events.specs.declared.stamped.Stamped.{Stamped}
 use Rattle.events.proofs.stamped.CommandPayload.write.Goals as goal
@@ -16,4 +15,4 @@ shape_of-out c = ap length c.write.ensures.bytes ∙ out_length _ _
 pub returns : goal.returns
 unfolding command_wire
 returns c = let a = c.args in
-    (let both = same_frame _ _ _ _ _ (ap (λ (p : Stamped). limited_of (stamped_wire false (lent a.frame.now a.work.now a.kinds.now a.spans.now a.ids.now a.rssis.now a.snrs.now) p)) (sym c.stamped.ensures)) (c.write.ensures.answer, c.write.ensures.bytes) in record { answer = both.0; bytes = both.1 })
+    (let both = same_frame _ _ _ _ _ (ap (λ (p : Stamped). limited_of (stamped_wire false a.lent.now p)) (sym c.stamped.ensures)) (c.write.ensures.answer, c.write.ensures.bytes) in record { answer = both.0; bytes = both.1 })
