@@ -17,8 +17,8 @@ use Rattle.packets.proofs.mesh.MeshPacket.write.Reads as mesh_packet_write_reads
 packet_from_slice : Fixed 1 packet_from_slice_kinds.ps packet_from_slice_kinds.r packet_from_slice_reads.Post
 packet_from_slice κs a x y v w p q = (p ∙ sym q, refl)
 
-packet_write : Fixed 7 packet_write_kinds.ps packet_write_kinds.r packet_write_reads.Post
-packet_write κs a x y v w p q = (p.0 ∙ sym q.0, ap (λ (l : List ℕ). (tt, (tt, (tt, (tt, (tt, (tt, (tt, (tt, (l, tt)))))))))) (p.1 ∙ sym q.1))
+packet_write : Fixed 3 packet_write_kinds.ps packet_write_kinds.r packet_write_reads.Post
+packet_write κs a x y v w p q = (p.0 ∙ sym q.0, ap (λ (l : List ℕ). (tt, (tt, (l, tt)))) (p.1 ∙ sym q.1))
 
 payload_kinds_refusal : Fixed 2 payload_kinds_refusal_kinds.ps payload_kinds_refusal_kinds.r payload_kinds_refusal_reads.Post
 payload_kinds_refusal κs a x y v w p q = (p ∙ sym q, refl)
@@ -26,5 +26,5 @@ payload_kinds_refusal κs a x y v w p q = (p ∙ sym q, refl)
 mesh_packet_from_slice : Fixed 1 mesh_packet_from_slice_kinds.ps mesh_packet_from_slice_kinds.r mesh_packet_from_slice_reads.Post
 mesh_packet_from_slice κs a x y v w p q = (p ∙ sym q, refl)
 
-mesh_packet_write : Fixed 7 mesh_packet_write_kinds.ps mesh_packet_write_kinds.r mesh_packet_write_reads.Post
-mesh_packet_write κs a x y v w p q = (p.0 ∙ sym q.0, ap (λ (l : List ℕ). (tt, (tt, (tt, (tt, (tt, (tt, (tt, (tt, (l, tt)))))))))) (p.1 ∙ sym q.1))
+mesh_packet_write : Fixed 3 mesh_packet_write_kinds.ps mesh_packet_write_kinds.r mesh_packet_write_reads.Post
+mesh_packet_write κs a x y v w p q = (p.0 ∙ sym q.0, ap (λ (l : List ℕ). (tt, (tt, (l, tt)))) (p.1 ∙ sym q.1))

@@ -1,12 +1,12 @@
 // Any frame: a mesh frame where the first three bits are 111, and otherwise a LoRa frame, which is kept as it is.
 ghost use Rattle.std.specs.Prelude.{◌≡◌};
 ghost use Rattle.base.specs.Answers.{answer_of, out_of};
-ghost use Rattle.contents.specs.Content.{lent};
 ghost use Rattle.packets.specs.Read.{packet_of};
 ghost use Rattle.packets.specs.Write.{lora_frame, packet_frame};
 
 use crate::mesh::{MeshPacket, MeshRead};
 use base::{Limit, Refusal, Written};
+use contents::Lent;
 use fields::MHDR;
 use wire::{Run, emit};
 
@@ -58,23 +58,14 @@ impl Packet {
         PacketRead::Packet(Packet::Lora(Run { start: 0, len: n }))
     }
 
-    pub fn write<'a>(
-        self,
-        frame: &'a [u8],
-        work: &'a [u8],
-        kinds: &[[u8; 2]],
-        spans: &[[u32; 2]],
-        ids: &[u32],
-        rssis: &[i16],
-        snrs: &[i8],
-        out: &mut [u8],
-    ) -> Written
-        ensures answer { result ≡ answer_of (packet_frame (lent frame.now work.now kinds.now spans.now ids.now rssis.now snrs.now) self) out.old }
-        ensures bytes { out.new ≡ out_of (packet_frame (lent frame.now work.now kinds.now spans.now ids.now rssis.now snrs.now) self) out.old }
+    #[tactic(auto, unfolding(crate::specs::Write::packet_frame))]
+    pub fn write(self, lent: &Lent, out: &mut [u8]) -> Written
+        ensures answer { result ≡ answer_of (packet_frame lent.now self) out.old }
+        ensures bytes { out.new ≡ out_of (packet_frame lent.now self) out.old }
     {
         match self {
-            Packet::Mesh(p) => p.write(frame, work, kinds, spans, ids, rssis, snrs, out),
-            Packet::Lora(run) => write_lora(run, frame, out),
+            Packet::Mesh(p) => p.write(lent, out),
+            Packet::Lora(run) => write_lora(run, lent.frame, out),
         }
     }
 }

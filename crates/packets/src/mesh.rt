@@ -4,9 +4,10 @@ ghost use Rattle.std.specs.Prelude.{◌≡◌};
 ghost use Rattle.base.specs.Answers.{answer_of, out_of};
 ghost use Rattle.packets.specs.Read.{payload_at, mesh_of};
 ghost use Rattle.packets.specs.Write.{payload_kinds, mesh_frame};
-ghost use Rattle.contents.specs.Content.{lent};
 
 use base::{Limit, Refusal, Written};
+use composed_items::Lists;
+use contents::Lent;
 use events::{CommandPayload, CommandRead, EventPayload, EventRead};
 use fields::{HeaderByte, HeaderRead, MHDR, PayloadType};
 use links::{DownlinkPayload, DownlinkRead, UplinkPayload, UplinkRead};
@@ -66,19 +67,20 @@ fn read_body(t: PayloadType, b: &[u8]) -> PayloadRead
 
 impl Payload {
     // 29 where a composed item's kind is none, or is no value in a command; otherwise 0.
-    pub fn kinds_refusal(self, kinds: &[[u8; 2]], spans: &[[u32; 2]]) -> u8
-        ensures { result ≡ payload_kinds kinds.now spans.now self }
+    #[tactic(auto, unfolding(crate::specs::Write::payload_kinds))]
+    pub fn kinds_refusal(self, lists: &Lists) -> u8
+        ensures { result ≡ payload_kinds lists.now.kinds lists.now.spans self }
     {
         match self {
             Payload::Uplink(_) => 0,
             Payload::Downlink(_) => 0,
             Payload::Event(p) => {
                 let b = p.events;
-                b.kinds_refusal(true, kinds, spans)
+                b.kinds_refusal(true, lists)
             }
             Payload::Command(p) => {
                 let b = p.commands;
-                b.kinds_refusal(false, kinds, spans)
+                b.kinds_refusal(false, lists)
             }
         }
     }
@@ -121,39 +123,25 @@ impl MeshPacket {
 
     // What is lent holds the payload: runs in the frame or the work buffer, composed items in the lists. 29, 6, 7, 45, body fields, 19, 20,
     // 27, 5, 21.
-    pub fn write<'a>(
-        self,
-        frame: &'a [u8],
-        work: &'a [u8],
-        kinds: &[[u8; 2]],
-        spans: &[[u32; 2]],
-        ids: &[u32],
-        rssis: &[i16],
-        snrs: &[i8],
-        out: &mut [u8],
-    ) -> Written
-        ensures answer { result ≡ answer_of (mesh_frame (lent frame.now work.now kinds.now spans.now ids.now rssis.now snrs.now) self) out.old }
-        ensures bytes { out.new ≡ out_of (mesh_frame (lent frame.now work.now kinds.now spans.now ids.now rssis.now snrs.now) self) out.old }
+    pub fn write(self, lent: &Lent, out: &mut [u8]) -> Written
+        ensures answer { result ≡ answer_of (mesh_frame lent.now self) out.old }
+        ensures bytes { out.new ≡ out_of (mesh_frame lent.now self) out.old }
     {
         let mhdr = self.mhdr;
         let payload = self.payload;
         let has_mic = self.has_mic;
         let mic = self.mic;
-        let strange = payload.kinds_refusal(kinds, spans);
+        let strange = payload.kinds_refusal(&lent.lists);
         if strange != 0 {
             return Written::Refused(strange);
         }
         match mhdr.to_byte() {
             HeaderByte::Refused(n) => Written::Refused(n),
             HeaderByte::Byte(b) => match payload {
-                Payload::Uplink(p) => p.write_in(b, has_mic, mic, frame, out),
-                Payload::Downlink(p) => p.write_in(b, has_mic, mic, frame, out),
-                Payload::Event(p) => p.write_in(
-                    b, has_mic, mic, frame, work, kinds, spans, ids, rssis, snrs, out,
-                ),
-                Payload::Command(p) => p.write_in(
-                    b, has_mic, mic, frame, work, kinds, spans, ids, rssis, snrs, out,
-                ),
+                Payload::Uplink(p) => p.write_in(b, has_mic, mic, lent.frame, out),
+                Payload::Downlink(p) => p.write_in(b, has_mic, mic, lent.frame, out),
+                Payload::Event(p) => p.write_in(b, has_mic, mic, lent, out),
+                Payload::Command(p) => p.write_in(b, has_mic, mic, lent, out),
             },
         }
     }
