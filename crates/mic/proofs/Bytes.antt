@@ -12,8 +12,7 @@ use Rattle.base.specs.Answers.{bytes_or}
 use Rattle.base.proofs.Bytes.{none_lt, cons_lt, append_lt, take_lt, drop_lt, zeros_lt}
 use Rattle.wire.specs.Number.{be_bytes}
 use Rattle.wire.specs.Part.{part_of}
-use Rattle.wire.specs.Run.{run_refusal, run_bytes}
-use Rattle.wire.specs.declared.run.Run.{Run}
+use Rattle.wire.specs.Run.{run_refusal}
 use Rattle.wire.proofs.Laws.Number.{be_small}
 use Rattle.fields.specs.Meta.{after_rssi}
 use Rattle.fields.specs.Path.{path_wire, six_of}
@@ -25,11 +24,6 @@ use Rattle.fields.proofs.Laws.Signal.{rssi_byte_lt, snr_byte_lt}
 use Rattle.heartbeats.specs.Paths.{PathLists, path_at, path_run, path_count}
 use Rattle.items.specs.Items.{is_beat, bad_beat, kept, skipped, cut, pieces}
 use Rattle.kept_items.specs.Kept.{headed, fixed, item_bytes, kept_wire, open_bytes}
-use Rattle.composed_items.specs.Composed.{Lists, is_path, value_of, item_wire}
-use Rattle.composed_items.specs.declared.Composed.{Composed}
-use Rattle.contents.specs.Content.{held_in}
-use Rattle.contents.specs.declared.content.Held.{Held}
-use Rattle.contents.specs.declared.content.Held.TheVariants.{Frame as InFrame, Work as InWork}
 
 pub part_lt : (s : List ℕ) (start len : ℕ) → Bytes s → Bytes (part_of s start len)
 unfolding part_of
@@ -55,6 +49,10 @@ value_lt beat i (x ∷ v) h = cons_lt (fixed beat i x) (imap (fixed beat) (suc i
 
 headed_lt : (t : ℕ) (v : List ℕ) → t < 256 → Bytes v → Bytes (headed t v)
 headed_lt t v h g = cons_lt t (length v % 256 ∷ v) h (cons_lt (length v % 256) v (omega arith) g)
+
+pub item_lt : (beat : Bool) (t : ℕ) (v : List ℕ) → t < 256 → Bytes v → Bytes (item_bytes beat t v)
+unfolding item_bytes
+item_lt beat t v h g = headed_lt t (imap (fixed beat) 0 v) h (value_lt beat 0 v g)
 
 kept_lt : (ev : Bool) (k : ℕ) (s : List ℕ) → Bytes s → Bytes (kept_wire ev (pieces ev k s))
 unfolding pieces kept_wire item_bytes
@@ -95,21 +93,10 @@ path_lt l place n = by (eqb (run_refusal (path_count l) (record { start = place;
   by true = joined_lt six_of n place (path_at l) (λ k. six_lt (path_at l k))
   by false = none_lt
 
-pub item_lt : (ev : Bool) (l : Lists) (it : Composed) → Bytes l.src → it.tag < 256 → Bytes (item_wire ev l it)
-unfolding item_wire value_of
-item_lt ev l it src t = by (is_path ev it) where
-  by : (b : Bool)
-      → Bytes (headed (pick b 0 it.tag) (pick b (joined six_of (path_run l.entries it.place it.len)) (imap (fixed (is_beat ev it.tag)) 0 (part_of l.src it.place it.len))))
-  by true = headed_lt 0 (joined six_of (path_run l.entries it.place it.len)) (omega arith) (path_lt l.entries it.place it.len)
-  by false =
-      headed_lt it.tag (imap (fixed (is_beat ev it.tag)) 0 (part_of l.src it.place it.len)) t
-      (value_lt (is_beat ev it.tag) 0 (part_of l.src it.place it.len) (part_lt l.src it.place it.len src))
+-- a path behind its head, and the items of an open payload
+pub path_item_lt : (l : PathLists) (place n : ℕ) → Bytes (headed 0 (joined six_of (path_run l place n)))
+path_item_lt l place n = headed_lt 0 (joined six_of (path_run l place n)) (omega arith) (path_lt l place n)
 
-held_lt : (h : Held) (f w : List ℕ) → Bytes f → Bytes w → Bytes (held_in h f w)
-held_lt InFrame f w p q = p
-held_lt InWork f w p q = q
-
--- an open run, in either slice
-pub open_lt : (ev : Bool) (h : Held) (r : Run) (f w : List ℕ) → Bytes f → Bytes w → Bytes (open_bytes ev (run_bytes (held_in h f w) r))
+pub open_lt : (ev : Bool) (s : List ℕ) → Bytes s → Bytes (open_bytes ev s)
 unfolding open_bytes
-open_lt ev h r f w p q = kept_lt ev 0 (part_of (held_in h f w) r.start r.len) (part_lt (held_in h f w) r.start r.len (held_lt h f w p q))
+open_lt ev s h = kept_lt ev 0 s h

@@ -5,7 +5,7 @@ ghost use Rattle.std.specs.Prelude.{◌≡◌, ◌∷◌, ◌++◌, take};
 ghost use Rattle.base.specs.Answers.{bytes};
 ghost use Rattle.wire.specs.Number.{be_of};
 ghost use Rattle.fips197.specs.Aes.{aes};
-ghost use Rattle.contents.specs.Content.{lent, content_wire};
+ghost use Rattle.contents.specs.Content.{content_wire};
 ghost use Rattle.links.specs.Write.{prefixed, uplink_wire, downlink_wire, headed_by};
 ghost use Rattle.mic.specs.Mic.{fitting, signed_of, set_mic, validate_mic};
 ghost use Rattle.mic.specs.inner.Made.{made_of};
@@ -17,7 +17,7 @@ use base::{Checked, Limit, Refusal};
 use cipher::prepare;
 use cmac::{absorb, finish};
 use cmac_chain::Mac;
-use contents::Content;
+use contents::{Content, Lent};
 use fields::HeaderByte;
 use keys::Aes128Key;
 use links::{DownlinkPayload, UplinkPayload};
@@ -97,27 +97,21 @@ fn sign_downlink(p: DownlinkPayload, key: Aes128Key, first: u8, frame: &[u8]) ->
 }
 
 // A head and an event's or a command's content behind the header byte: 29, 45, path entries, 19, 20, 5.
-fn sign_content<'a>(
+fn sign_content(
     key: Aes128Key,
     first: u8,
     head: &[u8],
     content: Content,
     is_event: bool,
-    frame: &'a [u8],
-    work: &'a [u8],
-    kinds: &[[u8; 2]],
-    spans: &[[u32; 2]],
-    ids: &[u32],
-    rssis: &[i16],
-    snrs: &[i8],
+    lent: &Lent,
 ) -> Made
-    ensures { result ≡ made_of (aes key.0) (fitting (prefixed first (headed_by head.now (content_wire is_event (lent frame.now work.now kinds.now spans.now ids.now rssis.now snrs.now) content)))) }
+    ensures { result ≡ made_of (aes key.0) (fitting (prefixed first (headed_by head.now (content_wire is_event lent.now content)))) }
 {
-    let bad = content.refusal(is_event, frame, work, kinds, spans, ids, rssis, snrs);
+    let bad = content.refusal(is_event, lent);
     if bad != 0 {
         return Made::Refused(bad);
     }
-    let n = content.size(is_event, frame, work, kinds, spans, ids, rssis, snrs);
+    let n = content.size(is_event, lent);
     if Limit::FRAME < n {
         return Made::Refused(Refusal::FRAME_LONG);
     }
@@ -127,72 +121,46 @@ fn sign_content<'a>(
     let e = prepare(key);
     let byte = [first];
     let m = absorb(absorb(Mac::start(), &e, &byte), &e, head);
-    let all = absorb_content(
-        m, &e, content, is_event, frame, work, kinds, spans, ids, rssis, snrs,
-    );
+    let all = absorb_content(m, &e, content, is_event, lent);
     Made::Mic(number(finish(all, &e)))
 }
 
 // 29, 6, 7, 45, body fields, 19, 20, 5.
-fn make<'a>(
-    p: MeshPacket,
-    key: Aes128Key,
-    frame: &'a [u8],
-    work: &'a [u8],
-    kinds: &[[u8; 2]],
-    spans: &[[u32; 2]],
-    ids: &[u32],
-    rssis: &[i16],
-    snrs: &[i8],
-) -> Made
-    ensures { result ≡ made_of (aes key.0) (signed_of (lent frame.now work.now kinds.now spans.now ids.now rssis.now snrs.now) p) }
+fn make(p: MeshPacket, key: Aes128Key, lent: &Lent) -> Made
+    ensures { result ≡ made_of (aes key.0) (signed_of lent.now p) }
 {
     let mhdr = p.mhdr;
     let payload = p.payload;
-    let strange = payload.kinds_refusal(kinds, spans);
+    let strange = payload.kinds_refusal(lent);
     if strange != 0 {
         return Made::Refused(strange);
     }
     match mhdr.to_byte() {
         HeaderByte::Refused(n) => Made::Refused(n),
         HeaderByte::Byte(b) => match payload {
-            Payload::Uplink(u) => sign_uplink(u, key, b, frame),
-            Payload::Downlink(u) => sign_downlink(u, key, b, frame),
+            Payload::Uplink(u) => sign_uplink(u, key, b, lent.frame),
+            Payload::Downlink(u) => sign_downlink(u, key, b, lent.frame),
             Payload::Event(u) => {
                 let head = u.head();
                 let content = u.events;
-                sign_content(
-                    key, b, &head, content, true, frame, work, kinds, spans, ids, rssis, snrs,
-                )
+                sign_content(key, b, &head, content, true, lent)
             }
             Payload::Command(u) => {
                 let head = u.head();
                 let content = u.commands;
-                sign_content(
-                    key, b, &head, content, false, frame, work, kinds, spans, ids, rssis, snrs,
-                )
+                sign_content(key, b, &head, content, false, lent)
             }
         },
     }
 }
 
 // The packet with the MIC that its header and body have under a signing key. What is lent holds its payload, as when it is written.
-pub fn set_mic<'a>(
-    p: MeshPacket,
-    key: Aes128Key,
-    frame: &'a [u8],
-    work: &'a [u8],
-    kinds: &[[u8; 2]],
-    spans: &[[u32; 2]],
-    ids: &[u32],
-    rssis: &[i16],
-    snrs: &[i8],
-) -> MeshRead
-    ensures { result ≡ set_mic (aes key.0) (lent frame.now work.now kinds.now spans.now ids.now rssis.now snrs.now) p }
+pub fn set_mic(p: MeshPacket, key: Aes128Key, lent: &Lent) -> MeshRead
+    ensures { result ≡ set_mic (aes key.0) lent.now p }
 {
     let mhdr = p.mhdr;
     let payload = p.payload;
-    match make(p, key, frame, work, kinds, spans, ids, rssis, snrs) {
+    match make(p, key, lent) {
         Made::Refused(n) => MeshRead::Refused(n),
         Made::Mic(mic) => MeshRead::Mesh(MeshPacket {
             mhdr,
@@ -204,28 +172,18 @@ pub fn set_mic<'a>(
 }
 
 // 29, 27, then as signing.
-pub fn validate_mic<'a>(
-    p: MeshPacket,
-    key: Aes128Key,
-    frame: &'a [u8],
-    work: &'a [u8],
-    kinds: &[[u8; 2]],
-    spans: &[[u32; 2]],
-    ids: &[u32],
-    rssis: &[i16],
-    snrs: &[i8],
-) -> Validated
-    ensures { result ≡ validate_mic (aes key.0) (lent frame.now work.now kinds.now spans.now ids.now rssis.now snrs.now) p }
+pub fn validate_mic(p: MeshPacket, key: Aes128Key, lent: &Lent) -> Validated
+    ensures { result ≡ validate_mic (aes key.0) lent.now p }
 {
     let payload = p.payload;
-    let strange = payload.kinds_refusal(kinds, spans);
+    let strange = payload.kinds_refusal(lent);
     if strange != 0 {
         return Validated::Refused(strange);
     }
     if !p.has_mic {
         return Validated::Refused(Refusal::MIC_MISSING);
     }
-    match make(p, key, frame, work, kinds, spans, ids, rssis, snrs) {
+    match make(p, key, lent) {
         Made::Refused(n) => Validated::Refused(n),
         Made::Mic(mic) => {
             if p.mic == mic {

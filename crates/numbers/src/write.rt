@@ -1,13 +1,13 @@
 // The packet that numbers stand for, written.
 ghost use Rattle.std.specs.Prelude.{◌≡◌};
 ghost use Rattle.base.specs.Answers.{answer_of, out_of};
-ghost use Rattle.contents.specs.Content.{lent};
 ghost use Rattle.links.specs.Write.{uplink_wire, prefixed, with_mic};
 ghost use Rattle.numbers.specs.Numbers.{numbers_frame};
 
 use crate::PacketNumbers;
 use crate::back::{packet_of, to_type, to_u8, to_u32, too_wide, uplink_of};
 use base::{Checked, Refusal, Written};
+use contents::Lent;
 use fields::{HeaderByte, MHDR, PayloadType, TypeRead};
 use links::{UplinkPayload, write_frame};
 use packets::PacketRead;
@@ -41,50 +41,30 @@ fn write_in(
     }
 }
 
-fn write_any<'a>(
-    numbers: &PacketNumbers,
-    rssi: i16,
-    snr: i8,
-    frame: &'a [u8],
-    work: &'a [u8],
-    kinds: &[[u8; 2]],
-    spans: &[[u32; 2]],
-    ids: &[u32],
-    rssis: &[i16],
-    snrs: &[i8],
-    out: &mut [u8],
-) -> Written
-    ensures answer { result ≡ answer_of (numbers_frame (lent frame.now work.now kinds.now spans.now ids.now rssis.now snrs.now) numbers.now rssi snr) out.old }
-    ensures out { out.new ≡ out_of (numbers_frame (lent frame.now work.now kinds.now spans.now ids.now rssis.now snrs.now) numbers.now rssi snr) out.old }
+fn write_any(numbers: &PacketNumbers, rssi: i16, snr: i8, lent: &Lent, out: &mut [u8]) -> Written
+    ensures answer { result ≡ answer_of (numbers_frame lent.now numbers.now rssi snr) out.old }
+    ensures out { out.new ≡ out_of (numbers_frame lent.now numbers.now rssi snr) out.old }
 {
     match packet_of(numbers, rssi, snr) {
         PacketRead::Refused(n) => Written::Refused(n),
-        PacketRead::Packet(p) => p.write(frame, work, kinds, spans, ids, rssis, snrs, out),
+        PacketRead::Packet(p) => p.write(lent, out),
     }
 }
 
 // 29, then in the order of writing. An uplink is written straight from its numbers: as a packet it would be built in memory and taken
 // apart again.
-pub fn write_numbers<'a>(
+pub fn write_numbers(
     numbers: &PacketNumbers,
     rssi: i16,
     snr: i8,
-    frame: &'a [u8],
-    work: &'a [u8],
-    kinds: &[[u8; 2]],
-    spans: &[[u32; 2]],
-    ids: &[u32],
-    rssis: &[i16],
-    snrs: &[i8],
+    lent: &Lent,
     out: &mut [u8],
 ) -> Written
-    ensures answer { result ≡ answer_of (numbers_frame (lent frame.now work.now kinds.now spans.now ids.now rssis.now snrs.now) numbers.now rssi snr) out.old }
-    ensures out { out.new ≡ out_of (numbers_frame (lent frame.now work.now kinds.now spans.now ids.now rssis.now snrs.now) numbers.now rssi snr) out.old }
+    ensures answer { result ≡ answer_of (numbers_frame lent.now numbers.now rssi snr) out.old }
+    ensures out { out.new ≡ out_of (numbers_frame lent.now numbers.now rssi snr) out.old }
 {
     if numbers[0] != PayloadType::UPLINK as u64 {
-        return write_any(
-            numbers, rssi, snr, frame, work, kinds, spans, ids, rssis, snrs, out,
-        );
+        return write_any(numbers, rssi, snr, lent, out);
     }
     if too_wide(numbers) {
         return Written::Refused(Refusal::TYPE_LARGE);
@@ -103,7 +83,7 @@ pub fn write_numbers<'a>(
                     b,
                     numbers[3] != 0,
                     to_u32(numbers[4]),
-                    frame,
+                    lent.frame,
                     out,
                 ),
             }

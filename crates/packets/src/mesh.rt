@@ -6,7 +6,6 @@ ghost use Rattle.packets.specs.Read.{payload_at, mesh_of};
 ghost use Rattle.packets.specs.Write.{payload_kinds, mesh_frame};
 
 use base::{Limit, Refusal, Written};
-use composed_items::Lists;
 use contents::Lent;
 use events::{CommandPayload, CommandRead, EventPayload, EventRead};
 use fields::{HeaderByte, HeaderRead, MHDR, PayloadType};
@@ -68,19 +67,19 @@ fn read_body(t: PayloadType, b: &[u8]) -> PayloadRead
 impl Payload {
     // 29 where a composed item's kind is none, or is no value in a command; otherwise 0.
     #[tactic(auto, unfolding(crate::specs::Write::payload_kinds))]
-    pub fn kinds_refusal(self, lists: &Lists) -> u8
-        ensures { result ≡ payload_kinds lists.now.kinds lists.now.spans self }
+    pub fn kinds_refusal(self, lent: &Lent) -> u8
+        ensures { result ≡ payload_kinds lent.now.lists.kinds lent.now.lists.spans self }
     {
         match self {
             Payload::Uplink(_) => 0,
             Payload::Downlink(_) => 0,
             Payload::Event(p) => {
                 let b = p.events;
-                b.kinds_refusal(true, lists)
+                b.kinds_refusal(true, &lent.lists)
             }
             Payload::Command(p) => {
                 let b = p.commands;
-                b.kinds_refusal(false, lists)
+                b.kinds_refusal(false, &lent.lists)
             }
         }
     }
@@ -131,7 +130,7 @@ impl MeshPacket {
         let payload = self.payload;
         let has_mic = self.has_mic;
         let mic = self.mic;
-        let strange = payload.kinds_refusal(&lent.lists);
+        let strange = payload.kinds_refusal(lent);
         if strange != 0 {
             return Written::Refused(strange);
         }

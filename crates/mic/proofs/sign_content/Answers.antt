@@ -11,7 +11,7 @@ use Rattle.fips197.specs.Aes.{aes}
 use Rattle.cipher.specs.inner.Words.{enciphered}
 use Rattle.cmac_chain.specs.inner.State.{absorb1}
 use Rattle.cmac_chain.specs.declared.Mac.{Mac}
-use Rattle.contents.specs.Content.{lent, content_bytes}
+use Rattle.contents.specs.Content.{content_bytes}
 use Rattle.mic.proofs.Steps.{unsigned, signs, over, wire_refused, wire_bytes, mic_is}
 use Rattle.composed_items.proofs.Laws.{capped_is, capped_over}
 use borrow.Author.Rules.{rules}
@@ -19,12 +19,12 @@ use Rattle.mic.proofs.sign_content.Goals as goal
 
 pub returns-then-bad-ne0 : goal.returns-then-bad-ne0
 returns-then-bad-ne0 c = let a = c.args in
-    let l = lent a.frame.now a.work.now a.kinds.now a.spans.now a.ids.now a.rssis.now a.snrs.now in
+    let l = a.lent.now in
     unsigned (aes a.key.0) a.first _ _ (wire_refused a.is_event l a.content a.head.now _ c.refusal-bad.ensures c.if-bad-ne0.true)
 
 pub returns-then-n-gt-FRAME : goal.returns-then-n-gt-FRAME
 returns-then-n-gt-FRAME c = let a = c.args in
-    let l = lent a.frame.now a.work.now a.kinds.now a.spans.now a.ids.now a.rssis.now a.snrs.now in
+    let l = a.lent.now in
     let v = content_bytes a.is_event l a.content in
     let k = capped_over (length a.head.now) 8187 _ (length v) (omega arith) c.size-n.ensures (omega arith) in
     signs (aes a.key.0) a.first _ _ _ (wire_bytes a.is_event l a.content a.head.now _ c.refusal-bad.ensures c.if-bad-ne0.false)
@@ -32,7 +32,7 @@ returns-then-n-gt-FRAME c = let a = c.args in
 
 pub returns-then-head-n-gt-BODY : goal.returns-then-head-n-gt-BODY
 returns-then-head-n-gt-BODY c = let a = c.args in
-    let l = lent a.frame.now a.work.now a.kinds.now a.spans.now a.ids.now a.rssis.now a.snrs.now in
+    let l = a.lent.now in
     let v = content_bytes a.is_event l a.content in
     let k = capped_over (length a.head.now) 8187 _ (length v) (omega arith) c.size-n.ensures (omega arith) in
     signs (aes a.key.0) a.first _ _ _ (wire_bytes a.is_event l a.content a.head.now _ c.refusal-bad.ensures c.if-bad-ne0.false)
@@ -40,7 +40,7 @@ returns-then-head-n-gt-BODY c = let a = c.args in
 
 pub returns : goal.returns
 returns c = let a = c.args in
-    let l = lent a.frame.now a.work.now a.kinds.now a.spans.now a.ids.now a.rssis.now a.snrs.now in
+    let l = a.lent.now in
     let v = content_bytes a.is_event l a.content in
     let key = a.key.0 in
     let n : length key ≡ 16 = search rules in

@@ -4,7 +4,6 @@ use lib.ListN.{length}
 use mathlib.Core.Path.{sym, ap, ◌∙◌}
 use Rattle.base.specs.Answers.{refused}
 use Rattle.base.proofs.Answers.{out_length}
-use Rattle.contents.specs.Content.{lent}
 use Rattle.links.proofs.Steps.{same_frame}
 use Rattle.packets.specs.Write.{packet_frame}
 use Rattle.numbers.specs.Numbers.{if_packet, numbers_frame}
@@ -23,4 +22,4 @@ pub returns-in-Packet : goal.returns-in-Packet
 unfolding numbers_frame
 returns-in-Packet c =
     let a = c.args in
-    (let both = same_frame _ _ _ _ _ (ap (if_packet (packet_frame (lent a.frame.now a.work.now a.kinds.now a.spans.now a.ids.now a.rssis.now a.snrs.now)) refused) (sym (rw (to_z-of_z c.ranges.rssi, to_z-of_z c.ranges.snr) at c.packet_of.ensures) ∙ c.in-Packet.is)) (c.write.ensures.answer, c.write.ensures.bytes) in record { answer = both.0; out = both.1 })
+    (let both = same_frame _ _ _ _ _ (ap (if_packet (packet_frame a.lent.now) refused) (sym (rw (to_z-of_z c.ranges.rssi, to_z-of_z c.ranges.snr) at c.packet_of.ensures) ∙ c.in-Packet.is)) (c.write.ensures.answer, c.write.ensures.bytes) in record { answer = both.0; out = both.1 })
