@@ -32,8 +32,8 @@ content_decrypt κs a x y v w p q = (p.0 ∙ sym q.0, ap (λ (l : List ℕ). (tt
 content_decode : Fixed 1 content_decode_kinds.ps content_decode_kinds.r content_decode_reads.Post
 content_decode κs a x y v w p q = (p ∙ sym q, refl)
 
-event_encrypt : Fixed 7 event_encrypt_kinds.ps event_encrypt_kinds.r event_encrypt_reads.Post
-event_encrypt κs a x y v w p q = (p.0 ∙ sym q.0, ap (λ (l : List ℕ). (tt, (tt, (tt, (tt, (tt, (tt, (tt, (tt, (tt, (l, tt))))))))))) (p.1 ∙ sym q.1))
+event_encrypt : Fixed 3 event_encrypt_kinds.ps event_encrypt_kinds.r event_encrypt_reads.Post
+event_encrypt κs a x y v w p q = (p.0 ∙ sym q.0, ap (λ (l : List ℕ). (tt, (tt, (tt, (l, tt))))) (p.1 ∙ sym q.1))
 
 event_decrypt : Fixed 2 event_decrypt_kinds.ps event_decrypt_kinds.r event_decrypt_reads.Post
 event_decrypt κs a x y v w p q = (p.0 ∙ sym q.0, ap (λ (l : List ℕ). (tt, (tt, (tt, (l, tt))))) (p.1 ∙ sym q.1))
@@ -41,8 +41,8 @@ event_decrypt κs a x y v w p q = (p.0 ∙ sym q.0, ap (λ (l : List ℕ). (tt, 
 event_decode : Fixed 1 event_decode_kinds.ps event_decode_kinds.r event_decode_reads.Post
 event_decode κs a x y v w p q = (p ∙ sym q, refl)
 
-command_encrypt : Fixed 7 command_encrypt_kinds.ps command_encrypt_kinds.r command_encrypt_reads.Post
-command_encrypt κs a x y v w p q = (p.0 ∙ sym q.0, ap (λ (l : List ℕ). (tt, (tt, (tt, (tt, (tt, (tt, (tt, (tt, (tt, (l, tt))))))))))) (p.1 ∙ sym q.1))
+command_encrypt : Fixed 3 command_encrypt_kinds.ps command_encrypt_kinds.r command_encrypt_reads.Post
+command_encrypt κs a x y v w p q = (p.0 ∙ sym q.0, ap (λ (l : List ℕ). (tt, (tt, (tt, (l, tt))))) (p.1 ∙ sym q.1))
 
 command_decrypt : Fixed 2 command_decrypt_kinds.ps command_decrypt_kinds.r command_decrypt_reads.Post
 command_decrypt κs a x y v w p q = (p.0 ∙ sym q.0, ap (λ (l : List ℕ). (tt, (tt, (tt, (l, tt))))) (p.1 ∙ sym q.1))
@@ -50,8 +50,8 @@ command_decrypt κs a x y v w p q = (p.0 ∙ sym q.0, ap (λ (l : List ℕ). (tt
 command_decode : Fixed 1 command_decode_kinds.ps command_decode_kinds.r command_decode_reads.Post
 command_decode κs a x y v w p q = (p ∙ sym q, refl)
 
-mesh_encrypt : Fixed 7 mesh_encrypt_kinds.ps mesh_encrypt_kinds.r mesh_encrypt_reads.Post
-mesh_encrypt κs a x y v w p q = (p.0 ∙ sym q.0, ap (λ (l : List ℕ). (tt, (tt, (tt, (tt, (tt, (tt, (tt, (tt, (tt, (l, tt))))))))))) (p.1 ∙ sym q.1))
+mesh_encrypt : Fixed 3 mesh_encrypt_kinds.ps mesh_encrypt_kinds.r mesh_encrypt_reads.Post
+mesh_encrypt κs a x y v w p q = (p.0 ∙ sym q.0, ap (λ (l : List ℕ). (tt, (tt, (tt, (l, tt))))) (p.1 ∙ sym q.1))
 
 mesh_decrypt : Fixed 2 mesh_decrypt_kinds.ps mesh_decrypt_kinds.r mesh_decrypt_reads.Post
 mesh_decrypt κs a x y v w p q = (p.0 ∙ sym q.0, ap (λ (l : List ℕ). (tt, (tt, (tt, (l, tt))))) (p.1 ∙ sym q.1))

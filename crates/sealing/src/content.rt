@@ -2,13 +2,12 @@
 // work buffer, or are read in the frame as it stands, and are counted.
 ghost use Rattle.std.specs.Prelude.{◌≡◌};
 ghost use Rattle.base.specs.Answers.{answer_of, out_of};
-ghost use Rattle.contents.specs.Content.{lent};
 ghost use Rattle.sealing.specs.Open.{open_refusal, nothing_in, opened_as, opened_by, seal_wire, read_sealed, refuse_open, tell_open, decrypt_of, work_after, decode_of};
 ghost use Rattle.sealing.specs.Seal.{content_seal};
 
 use base::{Limit, Refusal, Written};
 use cipher::prepare;
-use contents::{Content, Held, held_in};
+use contents::{Content, Held, Lent, held_in};
 use items::{Opening, count_items};
 use key_stream::{add_stream, encrypt_events_commands};
 use keys::Aes128Key;
@@ -172,38 +171,30 @@ pub fn decode<'a>(content: Content, is_event: bool, frame: &'a [u8], work: &'a [
 }
 
 // At the front of out: 29, 45, path entries, 19, 20, 5, 21.
-pub(crate) fn encrypt<'a>(
+pub(crate) fn encrypt(
     content: Content,
     key: Aes128Key,
     is_event: bool,
     relay_id: u32,
     timestamp: u32,
-    frame: &'a [u8],
-    work: &'a [u8],
-    kinds: &[[u8; 2]],
-    spans: &[[u32; 2]],
-    ids: &[u32],
-    rssis: &[i16],
-    snrs: &[i8],
+    lent: &Lent,
     out: &mut [u8],
 ) -> Written
-    ensures answer { result ≡ answer_of (content_seal key.0 is_event relay_id timestamp (lent frame.now work.now kinds.now spans.now ids.now rssis.now snrs.now) content) out.old }
-    ensures bytes { out.new ≡ out_of (content_seal key.0 is_event relay_id timestamp (lent frame.now work.now kinds.now spans.now ids.now rssis.now snrs.now) content) out.old }
+    ensures answer { result ≡ answer_of (content_seal key.0 is_event relay_id timestamp lent.now content) out.old }
+    ensures bytes { out.new ≡ out_of (content_seal key.0 is_event relay_id timestamp lent.now content) out.old }
 {
-    let bad = content.refusal(is_event, frame, work, kinds, spans, ids, rssis, snrs);
+    let bad = content.refusal(is_event, lent);
     if bad != 0 {
         return Written::Refused(bad);
     }
-    let n = content.size(is_event, frame, work, kinds, spans, ids, rssis, snrs);
+    let n = content.size(is_event, lent);
     if Limit::PAYLOAD < n {
         return Written::Refused(Refusal::FRAME_LONG);
     }
     if out.len() < n {
         return Written::Refused(Refusal::OUTPUT_SHORT);
     }
-    content.put(
-        is_event, frame, work, kinds, spans, ids, rssis, snrs, out, 0,
-    );
+    content.put(is_event, lent, out, 0);
     let e = prepare(key);
     add_stream(&e, is_event, relay_id, timestamp, &mut out[..n]);
     Written::Bytes(n)

@@ -1,14 +1,13 @@
 // An event sealed and opened.
 ghost use Rattle.std.specs.Prelude.{◌≡◌, Bool};
 ghost use Rattle.base.specs.Answers.{answer_of, out_of};
-ghost use Rattle.contents.specs.Content.{lent};
 ghost use Rattle.sealing.specs.Open.{decrypt_of, work_after, decode_of};
 ghost use Rattle.sealing.specs.Seal.{event_seal, event_sealed, event_opened};
 
 use crate::content;
 use crate::content::Opened;
 use base::Written;
-use contents::Content;
+use contents::{Content, Lent};
 use events::{EventPayload, EventRead};
 use items::Opening;
 use keys::Aes128Key;
@@ -25,20 +24,9 @@ pub enum EventOpened {
 }
 
 // Sealed at the front of out, where it lies from then on: 29, 45, path entries, 19, 20, 5, 21.
-pub fn encrypt<'a>(
-    payload: EventPayload,
-    key: Aes128Key,
-    frame: &'a [u8],
-    work: &'a [u8],
-    kinds: &[[u8; 2]],
-    spans: &[[u32; 2]],
-    ids: &[u32],
-    rssis: &[i16],
-    snrs: &[i8],
-    out: &mut [u8],
-) -> EventRead
-    ensures answer { result ≡ event_sealed payload (answer_of (event_seal key.0 (lent frame.now work.now kinds.now spans.now ids.now rssis.now snrs.now) payload) out.old) }
-    ensures bytes { out.new ≡ out_of (event_seal key.0 (lent frame.now work.now kinds.now spans.now ids.now rssis.now snrs.now) payload) out.old }
+pub fn encrypt(payload: EventPayload, key: Aes128Key, lent: &Lent, out: &mut [u8]) -> EventRead
+    ensures answer { result ≡ event_sealed payload (answer_of (event_seal key.0 lent.now payload) out.old) }
+    ensures bytes { out.new ≡ out_of (event_seal key.0 lent.now payload) out.old }
 {
     let events = payload.events;
     match content::encrypt(
@@ -47,13 +35,7 @@ pub fn encrypt<'a>(
         true,
         payload.relay_id,
         payload.timestamp,
-        frame,
-        work,
-        kinds,
-        spans,
-        ids,
-        rssis,
-        snrs,
+        lent,
         out,
     ) {
         Written::Refused(n) => EventRead::Refused(n),

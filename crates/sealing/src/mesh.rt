@@ -1,13 +1,13 @@
 // A mesh packet sealed and opened: its event or command, and nothing of an uplink or a downlink.
 ghost use Rattle.std.specs.Prelude.{◌≡◌};
 ghost use Rattle.base.specs.Answers.{out_of};
-ghost use Rattle.contents.specs.Content.{lent};
 ghost use Rattle.packets.specs.Read.{carrying};
 ghost use Rattle.sealing.specs.Mesh.{nothing_to_open, seal_of, mesh_sealed, of_event_opened, of_command_opened, mesh_decrypted, mesh_work, mesh_decoded};
 
 use crate::command::CommandOpened;
 use crate::event::EventOpened;
 use crate::{command, event};
+use contents::Lent;
 use events::{CommandRead, EventRead};
 use items::Opening;
 use keys::Aes128Key;
@@ -40,34 +40,19 @@ fn carrying(packet: MeshPacket, payload: Payload) -> MeshPacket
 }
 
 // An event's or a command's payload, sealed at the front of out: 29, 45, path entries, 19, 20, 5, 21. Of an uplink or a downlink nothing.
-pub fn encrypt<'a>(
-    packet: MeshPacket,
-    key: Aes128Key,
-    frame: &'a [u8],
-    work: &'a [u8],
-    kinds: &[[u8; 2]],
-    spans: &[[u32; 2]],
-    ids: &[u32],
-    rssis: &[i16],
-    snrs: &[i8],
-    out: &mut [u8],
-) -> MeshRead
-    ensures answer { result ≡ mesh_sealed key.0 (lent frame.now work.now kinds.now spans.now ids.now rssis.now snrs.now) packet packet.payload out.old }
-    ensures bytes { out.new ≡ out_of (seal_of key.0 (lent frame.now work.now kinds.now spans.now ids.now rssis.now snrs.now) packet.payload) out.old }
+pub fn encrypt(packet: MeshPacket, key: Aes128Key, lent: &Lent, out: &mut [u8]) -> MeshRead
+    ensures answer { result ≡ mesh_sealed key.0 lent.now packet packet.payload out.old }
+    ensures bytes { out.new ≡ out_of (seal_of key.0 lent.now packet.payload) out.old }
 {
     let payload = packet.payload;
     match payload {
         Payload::Uplink(_) => MeshRead::Mesh(packet),
         Payload::Downlink(_) => MeshRead::Mesh(packet),
-        Payload::Event(p) => match event::encrypt(
-            p, key, frame, work, kinds, spans, ids, rssis, snrs, out,
-        ) {
+        Payload::Event(p) => match event::encrypt(p, key, lent, out) {
             EventRead::Payload(q) => MeshRead::Mesh(carrying(packet, Payload::Event(q))),
             EventRead::Refused(n) => MeshRead::Refused(n),
         },
-        Payload::Command(p) => match command::encrypt(
-            p, key, frame, work, kinds, spans, ids, rssis, snrs, out,
-        ) {
+        Payload::Command(p) => match command::encrypt(p, key, lent, out) {
             CommandRead::Payload(q) => MeshRead::Mesh(carrying(packet, Payload::Command(q))),
             CommandRead::Refused(n) => MeshRead::Refused(n),
         },

@@ -21,9 +21,7 @@ pub returns-then-out-n : goal.returns-then-out-n
 returns-then-out-n c = (let both = seal_short _ _ _ _ _ _ _ _ c.refusal-bad.ensures c.if-bad-ne0.false _ c.size-n.ensures c.if-n-gt-PAYLOAD.false c.if-out-n.true in record { answer = both.0; bytes = both.1 })
 
 pub returns : goal.returns
-returns c = let b = c.before.before.before.before.before.before.before.before.before.before.before.before.before.before.before.before.before.before.before in
-    let k = b.args.key.0 in
-    let w = b.well_formed.0 in
+returns c = let k = c.args.key.0 in
     let n : length k ≡ 16 = search rules in
     let f : (i : ℕ) → Fits w8 (get_or k i 0) = λ i. search rules in
     (let both = seal_done k _ _ _ _ _ _ _ c.refusal-bad.ensures c.if-bad-ne0.false _ c.size-n.ensures (record { long = n; small = λ i. (f i).fits }) c.if-n-gt-PAYLOAD.false c.if-out-n.false c.put.ensures c.prepare-e.ensures c.add_stream.ensures in record { answer = both.0; bytes = both.1 })
