@@ -234,9 +234,9 @@ mesh_item_write : Fixed 3 mesh_item_write_kinds.ps mesh_item_write_kinds.r mesh_
 mesh_item_write κs a x y v w p q =
     (p.0 ∙ sym q.0, ap₂ (λ (a : List ℕ) (b : ℕ). (tt, (tt, (tt, (tt, (a, (b, tt))))))) (p.1.0 ∙ sym q.1.0) (p.1.1 ∙ sym q.1.1))
 
-mesh_heartbeat_write : Fixed 5 mesh_heartbeat_write_kinds.ps mesh_heartbeat_write_kinds.r mesh_heartbeat_write_reads.Post
+mesh_heartbeat_write : Fixed 4 mesh_heartbeat_write_kinds.ps mesh_heartbeat_write_kinds.r mesh_heartbeat_write_reads.Post
 mesh_heartbeat_write κs a x y v w p q =
-    (p.0 ∙ sym q.0, ap₂ (λ (a : List ℕ) (b : ℕ). (tt, (tt, (tt, (a, (b, tt)))))) (p.1.0 ∙ sym q.1.0) (p.1.1 ∙ sym q.1.1))
+    (p.0 ∙ sym q.0, ap₂ (λ (a : List ℕ) (b : ℕ). (tt, (a, (b, tt)))) (p.1.0 ∙ sym q.1.0) (p.1.1 ∙ sym q.1.1))
 
 mesh_read : Fixed 4 mesh_read_kinds.ps mesh_read_kinds.r mesh_read_reads.Post
 mesh_read κs a x y v w p q = (
@@ -259,29 +259,29 @@ mesh_read_body κs a x y v w p q = (
       ∙ ap₂ (λ (b : ℤ) (c : ℤ). (tt, (tt, (w.1.1.0, (b, (c, tt)))))) (p.1.1.0 ∙ sym q.1.1.0) (p.1.1.1 ∙ sym q.1.1.1),
 )
 
-mesh_write : Fixed 9 mesh_write_kinds.ps mesh_write_kinds.r mesh_write_reads.Post
+mesh_write : Fixed 5 mesh_write_kinds.ps mesh_write_kinds.r mesh_write_reads.Post
 mesh_write κs a x y v w p q =
-    (p.0 ∙ sym q.0, ap₂ (λ (a : List ℕ) (b : ℕ). (tt, (tt, (tt, (tt, (tt, (tt, (tt, (tt, (tt, (tt, (a, (b, tt))))))))))))) (p.1.0 ∙ sym q.1.0) (p.1.1 ∙ sym q.1.1))
+    (p.0 ∙ sym q.0, ap₂ (λ (a : List ℕ) (b : ℕ). (tt, (tt, (tt, (tt, (a, (b, tt))))))) (p.1.0 ∙ sym q.1.0) (p.1.1 ∙ sym q.1.1))
 
-mesh_write_body : Fixed 9 mesh_write_body_kinds.ps mesh_write_body_kinds.r mesh_write_body_reads.Post
+mesh_write_body : Fixed 5 mesh_write_body_kinds.ps mesh_write_body_kinds.r mesh_write_body_reads.Post
 mesh_write_body κs a x y v w p q =
-    (p.0 ∙ sym q.0, ap₂ (λ (a : List ℕ) (b : ℕ). (tt, (tt, (tt, (tt, (tt, (tt, (tt, (tt, (tt, (tt, (a, (b, tt))))))))))))) (p.1.0 ∙ sym q.1.0) (p.1.1 ∙ sym q.1.1))
+    (p.0 ∙ sym q.0, ap₂ (λ (a : List ℕ) (b : ℕ). (tt, (tt, (tt, (tt, (a, (b, tt))))))) (p.1.0 ∙ sym q.1.0) (p.1.1 ∙ sym q.1.1))
 
-mesh_sign : Fixed 8 mesh_sign_kinds.ps mesh_sign_kinds.r mesh_sign_reads.Post
+mesh_sign : Fixed 4 mesh_sign_kinds.ps mesh_sign_kinds.r mesh_sign_reads.Post
 mesh_sign κs a x y v w p q =
-    (p.0 ∙ sym q.0, ap (λ (a : List ℕ). (a, (tt, (tt, (tt, (tt, (tt, (tt, (tt, (tt, (tt, (tt, tt)))))))))))) (p.1 ∙ sym q.1))
+    (p.0 ∙ sym q.0, ap (λ (a : List ℕ). (a, (tt, (tt, (tt, (tt, tt)))))) (p.1 ∙ sym q.1))
 
-mesh_validate : Fixed 9 mesh_validate_kinds.ps mesh_validate_kinds.r mesh_validate_reads.Post
+mesh_validate : Fixed 5 mesh_validate_kinds.ps mesh_validate_kinds.r mesh_validate_reads.Post
 mesh_validate κs a x y v w p q =
-    (p.0 ∙ sym q.0, ap (λ (a : ℕ). (tt, (tt, (tt, (tt, (tt, (tt, (tt, (tt, (tt, (tt, (tt, (a, tt))))))))))))) (p.1 ∙ sym q.1))
+    (p.0 ∙ sym q.0, ap (λ (a : ℕ). (tt, (tt, (tt, (tt, (tt, (a, tt))))))) (p.1 ∙ sym q.1))
 
 mesh_set_hop_count : Fixed 2 mesh_set_hop_count_kinds.ps mesh_set_hop_count_kinds.r mesh_set_hop_count_reads.Post
 mesh_set_hop_count κs a x y v w p q =
     (p.0 ∙ sym q.0, ap (λ (a : List ℕ). (tt, (a, (tt, tt)))) (p.1 ∙ sym q.1))
 
-mesh_seal : Fixed 9 mesh_seal_kinds.ps mesh_seal_kinds.r mesh_seal_reads.Post
+mesh_seal : Fixed 5 mesh_seal_kinds.ps mesh_seal_kinds.r mesh_seal_reads.Post
 mesh_seal κs a x y v w p q =
-    (p.0 ∙ sym q.0, ap₂ (λ (a : List ℕ) (b : List ℕ). (a, (tt, (tt, (tt, (tt, (tt, (tt, (tt, (tt, (b, tt))))))))))) (p.1.0 ∙ sym q.1.0) (p.1.1 ∙ sym q.1.1))
+    (p.0 ∙ sym q.0, ap₂ (λ (a : List ℕ) (b : List ℕ). (a, (tt, (tt, (b, tt))))) (p.1.0 ∙ sym q.1.0) (p.1.1 ∙ sym q.1.1))
 
 mesh_decrypt : Fixed 5 mesh_decrypt_kinds.ps mesh_decrypt_kinds.r mesh_decrypt_reads.Post
 mesh_decrypt κs a x y v w p q = (

@@ -3,7 +3,6 @@ ghost use Rattle.std.specs.Prelude.{◌≡◌, pos};
 ghost use Rattle.base.specs.Answers.{answer_of, out_of, number_in, left_by, written_says, checked_of, checked_number};
 ghost use Rattle.fips197.specs.Aes.{aes};
 ghost use Rattle.fields.specs.Header.{type_read};
-ghost use Rattle.contents.specs.Content.{lent};
 ghost use Rattle.links.specs.Write.{limited_of};
 ghost use Rattle.packets.specs.Read.{packet_says, packet_of, mesh_says, mesh_of};
 ghost use Rattle.packets.specs.Write.{payload_wire};
@@ -17,6 +16,7 @@ ghost use Rattle.mesh_c.specs.inner.Known.{known_id, known_time};
 use crate::field::{from_u16, from_u32};
 use crate::item::{counts_of, put_length};
 use base::{Checked, Refusal, Written};
+use contents::Lent;
 use fields::PayloadType;
 use hops::set_hop_count;
 use keys::Aes128Key;
@@ -69,126 +69,76 @@ pub fn mesh_read_body(
 // ---- writing
 
 // 29, then in the order of writing; the frame's length in `length`.
-pub fn mesh_write<'a>(
+pub fn mesh_write(
     numbers: &PacketNumbers,
     rssi: i16,
     snr: i8,
-    frame: &'a [u8],
-    work: &'a [u8],
-    kinds: &[[u8; 2]],
-    spans: &[[u32; 2]],
-    ids: &[u32],
-    rssis: &[i16],
-    snrs: &[i8],
+    lent: &Lent,
     out: &mut [u8],
     length: &mut u64,
 ) -> u8
-    ensures answer { result ≡ number_in (written_says (answer_of (numbers_frame (lent frame.now work.now kinds.now spans.now ids.now rssis.now snrs.now) numbers.now rssi snr) out.old)) }
-    ensures out { out.new ≡ out_of (numbers_frame (lent frame.now work.now kinds.now spans.now ids.now rssis.now snrs.now) numbers.now rssi snr) out.old }
-    ensures length { length.new ≡ left_by as_it_is length.old (written_says (answer_of (numbers_frame (lent frame.now work.now kinds.now spans.now ids.now rssis.now snrs.now) numbers.now rssi snr) out.old)) }
+    ensures answer { result ≡ number_in (written_says (answer_of (numbers_frame lent.now numbers.now rssi snr) out.old)) }
+    ensures out { out.new ≡ out_of (numbers_frame lent.now numbers.now rssi snr) out.old }
+    ensures length { length.new ≡ left_by as_it_is length.old (written_says (answer_of (numbers_frame lent.now numbers.now rssi snr) out.old)) }
 {
-    put_length(
-        write_numbers(
-            numbers, rssi, snr, frame, work, kinds, spans, ids, rssis, snrs, out,
-        ),
-        length,
-    )
+    put_length(write_numbers(numbers, rssi, snr, lent, out), length)
 }
 
-fn write_payload<'a>(
-    payload: Payload,
-    frame: &'a [u8],
-    work: &'a [u8],
-    kinds: &[[u8; 2]],
-    spans: &[[u32; 2]],
-    ids: &[u32],
-    rssis: &[i16],
-    snrs: &[i8],
-    out: &mut [u8],
-) -> Written
-    ensures answer { result ≡ answer_of (limited_of (payload_wire (lent frame.now work.now kinds.now spans.now ids.now rssis.now snrs.now) payload)) out.old }
-    ensures out { out.new ≡ out_of (limited_of (payload_wire (lent frame.now work.now kinds.now spans.now ids.now rssis.now snrs.now) payload)) out.old }
+fn write_payload(payload: Payload, lent: &Lent, out: &mut [u8]) -> Written
+    ensures answer { result ≡ answer_of (limited_of (payload_wire lent.now payload)) out.old }
+    ensures out { out.new ≡ out_of (limited_of (payload_wire lent.now payload)) out.old }
 {
     match payload {
-        Payload::Uplink(p) => p.write(frame, out),
-        Payload::Downlink(p) => p.write(frame, out),
-        Payload::Event(p) => p.write(frame, work, kinds, spans, ids, rssis, snrs, out),
-        Payload::Command(p) => p.write(frame, work, kinds, spans, ids, rssis, snrs, out),
+        Payload::Uplink(p) => p.write(lent.frame, out),
+        Payload::Downlink(p) => p.write(lent.frame, out),
+        Payload::Event(p) => p.write(lent, out),
+        Payload::Command(p) => p.write(lent, out),
     }
 }
 
-fn write_alone<'a>(
-    numbers: &PacketNumbers,
-    rssi: i16,
-    snr: i8,
-    frame: &'a [u8],
-    work: &'a [u8],
-    kinds: &[[u8; 2]],
-    spans: &[[u32; 2]],
-    ids: &[u32],
-    rssis: &[i16],
-    snrs: &[i8],
-    out: &mut [u8],
-) -> Written
-    ensures answer { result ≡ answer_of (numbers_body (lent frame.now work.now kinds.now spans.now ids.now rssis.now snrs.now) numbers.now rssi snr) out.old }
-    ensures out { out.new ≡ out_of (numbers_body (lent frame.now work.now kinds.now spans.now ids.now rssis.now snrs.now) numbers.now rssi snr) out.old }
+fn write_alone(numbers: &PacketNumbers, rssi: i16, snr: i8, lent: &Lent, out: &mut [u8]) -> Written
+    ensures answer { result ≡ answer_of (numbers_body lent.now numbers.now rssi snr) out.old }
+    ensures out { out.new ≡ out_of (numbers_body lent.now numbers.now rssi snr) out.old }
 {
     match mesh_of(numbers, rssi, snr) {
         MeshRead::Refused(n) => Written::Refused(n),
         MeshRead::Mesh(p) => {
             let payload = p.payload;
-            write_payload(payload, frame, work, kinds, spans, ids, rssis, snrs, out)
+            write_payload(payload, lent, out)
         }
     }
 }
 
 // The body alone.
-pub fn mesh_write_body<'a>(
+pub fn mesh_write_body(
     numbers: &PacketNumbers,
     rssi: i16,
     snr: i8,
-    frame: &'a [u8],
-    work: &'a [u8],
-    kinds: &[[u8; 2]],
-    spans: &[[u32; 2]],
-    ids: &[u32],
-    rssis: &[i16],
-    snrs: &[i8],
+    lent: &Lent,
     out: &mut [u8],
     length: &mut u64,
 ) -> u8
-    ensures answer { result ≡ number_in (written_says (answer_of (numbers_body (lent frame.now work.now kinds.now spans.now ids.now rssis.now snrs.now) numbers.now rssi snr) out.old)) }
-    ensures out { out.new ≡ out_of (numbers_body (lent frame.now work.now kinds.now spans.now ids.now rssis.now snrs.now) numbers.now rssi snr) out.old }
-    ensures length { length.new ≡ left_by as_it_is length.old (written_says (answer_of (numbers_body (lent frame.now work.now kinds.now spans.now ids.now rssis.now snrs.now) numbers.now rssi snr) out.old)) }
+    ensures answer { result ≡ number_in (written_says (answer_of (numbers_body lent.now numbers.now rssi snr) out.old)) }
+    ensures out { out.new ≡ out_of (numbers_body lent.now numbers.now rssi snr) out.old }
+    ensures length { length.new ≡ left_by as_it_is length.old (written_says (answer_of (numbers_body lent.now numbers.now rssi snr) out.old)) }
 {
-    put_length(
-        write_alone(
-            numbers, rssi, snr, frame, work, kinds, spans, ids, rssis, snrs, out,
-        ),
-        length,
-    )
+    put_length(write_alone(numbers, rssi, snr, lent, out), length)
 }
 
 // ---- signing and validating
 
-fn sign_numbers<'a>(
+fn sign_numbers(
     numbers: &PacketNumbers,
     rssi: i16,
     snr: i8,
     key: Aes128Key,
-    frame: &'a [u8],
-    work: &'a [u8],
-    kinds: &[[u8; 2]],
-    spans: &[[u32; 2]],
-    ids: &[u32],
-    rssis: &[i16],
-    snrs: &[i8],
+    lent: &Lent,
 ) -> MeshRead
-    ensures { result ≡ numbers_signed (aes key.0) (lent frame.now work.now kinds.now spans.now ids.now rssis.now snrs.now) numbers.now rssi snr }
+    ensures { result ≡ numbers_signed (aes key.0) lent.now numbers.now rssi snr }
 {
     match mesh_of(numbers, rssi, snr) {
         MeshRead::Refused(n) => MeshRead::Refused(n),
-        MeshRead::Mesh(p) => set_mic(p, key, frame, work, kinds, spans, ids, rssis, snrs),
+        MeshRead::Mesh(p) => set_mic(p, key, lent),
     }
 }
 
@@ -206,90 +156,42 @@ fn put_signed(read: MeshRead, numbers: &mut PacketNumbers) -> u8
 }
 
 // The MIC that a packet has under a signing key, in place: has_mic becomes 1, and mic the MIC. What MIC it came with does not matter.
-pub fn mesh_sign<'a>(
-    numbers: &mut PacketNumbers,
-    rssi: i16,
-    snr: i8,
-    key: &[u8; 16],
-    frame: &'a [u8],
-    work: &'a [u8],
-    kinds: &[[u8; 2]],
-    spans: &[[u32; 2]],
-    ids: &[u32],
-    rssis: &[i16],
-    snrs: &[i8],
-) -> u8
-    ensures answer { result ≡ number_in (mesh_says (numbers_signed (aes key.now) (lent frame.now work.now kinds.now spans.now ids.now rssis.now snrs.now) numbers.old rssi snr)) }
-    ensures numbers { numbers.new ≡ signed_left numbers.old (mesh_says (numbers_signed (aes key.now) (lent frame.now work.now kinds.now spans.now ids.now rssis.now snrs.now) numbers.old rssi snr)) }
+pub fn mesh_sign(numbers: &mut PacketNumbers, rssi: i16, snr: i8, key: &[u8; 16], lent: &Lent) -> u8
+    ensures answer { result ≡ number_in (mesh_says (numbers_signed (aes key.now) lent.now numbers.old rssi snr)) }
+    ensures numbers { numbers.new ≡ signed_left numbers.old (mesh_says (numbers_signed (aes key.now) lent.now numbers.old rssi snr)) }
 {
-    let read = sign_numbers(
-        numbers,
-        rssi,
-        snr,
-        Aes128Key::from_bytes(*key),
-        frame,
-        work,
-        kinds,
-        spans,
-        ids,
-        rssis,
-        snrs,
-    );
+    let read = sign_numbers(numbers, rssi, snr, Aes128Key::from_bytes(*key), lent);
     put_signed(read, numbers)
 }
 
-fn validate_numbers<'a>(
+fn validate_numbers(
     numbers: &PacketNumbers,
     rssi: i16,
     snr: i8,
     key: Aes128Key,
-    frame: &'a [u8],
-    work: &'a [u8],
-    kinds: &[[u8; 2]],
-    spans: &[[u32; 2]],
-    ids: &[u32],
-    rssis: &[i16],
-    snrs: &[i8],
+    lent: &Lent,
 ) -> Validated
-    ensures { result ≡ numbers_valid (aes key.0) (lent frame.now work.now kinds.now spans.now ids.now rssis.now snrs.now) numbers.now rssi snr }
+    ensures { result ≡ numbers_valid (aes key.0) lent.now numbers.now rssi snr }
 {
     match mesh_of(numbers, rssi, snr) {
         MeshRead::Refused(n) => Validated::Refused(n),
-        MeshRead::Mesh(p) => validate_mic(p, key, frame, work, kinds, spans, ids, rssis, snrs),
+        MeshRead::Mesh(p) => validate_mic(p, key, lent),
     }
 }
 
 // Whether a packet has the MIC that it should have under a signing key: 0 with 1 or 0 in `valid`, or the number with nothing changed.
-pub fn mesh_validate<'a>(
+pub fn mesh_validate(
     numbers: &PacketNumbers,
     rssi: i16,
     snr: i8,
     key: &[u8; 16],
-    frame: &'a [u8],
-    work: &'a [u8],
-    kinds: &[[u8; 2]],
-    spans: &[[u32; 2]],
-    ids: &[u32],
-    rssis: &[i16],
-    snrs: &[i8],
+    lent: &Lent,
     valid: &mut u8,
 ) -> u8
-    ensures answer { result ≡ number_in (valid_says (numbers_valid (aes key.now) (lent frame.now work.now kinds.now spans.now ids.now rssis.now snrs.now) numbers.now rssi snr)) }
-    ensures valid { valid.new ≡ left_by bit valid.old (valid_says (numbers_valid (aes key.now) (lent frame.now work.now kinds.now spans.now ids.now rssis.now snrs.now) numbers.now rssi snr)) }
+    ensures answer { result ≡ number_in (valid_says (numbers_valid (aes key.now) lent.now numbers.now rssi snr)) }
+    ensures valid { valid.new ≡ left_by bit valid.old (valid_says (numbers_valid (aes key.now) lent.now numbers.now rssi snr)) }
 {
-    match validate_numbers(
-        numbers,
-        rssi,
-        snr,
-        Aes128Key::from_bytes(*key),
-        frame,
-        work,
-        kinds,
-        spans,
-        ids,
-        rssis,
-        snrs,
-    ) {
+    match validate_numbers(numbers, rssi, snr, Aes128Key::from_bytes(*key), lent) {
         Validated::Valid => {
             *valid = 1;
             0
@@ -330,58 +232,23 @@ fn put_sealed(read: MeshRead, numbers: &mut PacketNumbers) -> u8
     }
 }
 
-fn seal_numbers<'a>(
-    numbers: &PacketNumbers,
-    key: Aes128Key,
-    frame: &'a [u8],
-    work: &'a [u8],
-    kinds: &[[u8; 2]],
-    spans: &[[u32; 2]],
-    ids: &[u32],
-    rssis: &[i16],
-    snrs: &[i8],
-    out: &mut [u8],
-) -> MeshRead
-    ensures answer { result ≡ numbers_sealed key.0 (lent frame.now work.now kinds.now spans.now ids.now rssis.now snrs.now) numbers.now out.old }
-    ensures out { out.new ≡ out_of (numbers_seal key.0 (lent frame.now work.now kinds.now spans.now ids.now rssis.now snrs.now) numbers.now) out.old }
+fn seal_numbers(numbers: &PacketNumbers, key: Aes128Key, lent: &Lent, out: &mut [u8]) -> MeshRead
+    ensures answer { result ≡ numbers_sealed key.0 lent.now numbers.now out.old }
+    ensures out { out.new ≡ out_of (numbers_seal key.0 lent.now numbers.now) out.old }
 {
     match mesh_of(numbers, 0, 0) {
         MeshRead::Refused(n) => MeshRead::Refused(n),
-        MeshRead::Mesh(p) => sealing::mesh::encrypt(
-            p, key, frame, work, kinds, spans, ids, rssis, snrs, out,
-        ),
+        MeshRead::Mesh(p) => sealing::mesh::encrypt(p, key, lent, out),
     }
 }
 
 // The packet with its payload sealed, which lies at the front of `out`: `out` is its frame from then on.
-pub fn mesh_seal<'a>(
-    numbers: &mut PacketNumbers,
-    key: &[u8; 16],
-    frame: &'a [u8],
-    work: &'a [u8],
-    kinds: &[[u8; 2]],
-    spans: &[[u32; 2]],
-    ids: &[u32],
-    rssis: &[i16],
-    snrs: &[i8],
-    out: &mut [u8],
-) -> u8
-    ensures answer { result ≡ number_in (mesh_says (numbers_sealed key.now (lent frame.now work.now kinds.now spans.now ids.now rssis.now snrs.now) numbers.old out.old)) }
-    ensures numbers { numbers.new ≡ placed_left numbers.old (mesh_says (numbers_sealed key.now (lent frame.now work.now kinds.now spans.now ids.now rssis.now snrs.now) numbers.old out.old)) }
-    ensures out { out.new ≡ out_of (numbers_seal key.now (lent frame.now work.now kinds.now spans.now ids.now rssis.now snrs.now) numbers.old) out.old }
+pub fn mesh_seal(numbers: &mut PacketNumbers, key: &[u8; 16], lent: &Lent, out: &mut [u8]) -> u8
+    ensures answer { result ≡ number_in (mesh_says (numbers_sealed key.now lent.now numbers.old out.old)) }
+    ensures numbers { numbers.new ≡ placed_left numbers.old (mesh_says (numbers_sealed key.now lent.now numbers.old out.old)) }
+    ensures out { out.new ≡ out_of (numbers_seal key.now lent.now numbers.old) out.old }
 {
-    let read = seal_numbers(
-        numbers,
-        Aes128Key::from_bytes(*key),
-        frame,
-        work,
-        kinds,
-        spans,
-        ids,
-        rssis,
-        snrs,
-        out,
-    );
+    let read = seal_numbers(numbers, Aes128Key::from_bytes(*key), lent, out);
     put_sealed(read, numbers)
 }
 

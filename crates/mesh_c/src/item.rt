@@ -2,7 +2,7 @@
 ghost use Rattle.std.specs.Prelude.{◌≡◌, not};
 ghost use Rattle.base.specs.Answers.{answer_of, out_of, number_in, left_by, written_says};
 ghost use Rattle.heartbeats.specs.Heartbeat.{beat_says, beat_of, path_says, entry_read, beat_wire};
-ghost use Rattle.heartbeats.specs.Paths.{paths, paths_in};
+ghost use Rattle.heartbeats.specs.Paths.{paths_in};
 ghost use Rattle.items.specs.Items.{counts_of, counts_say, bare_item_at, item_says};
 ghost use Rattle.composed_items.specs.One.{one_wire};
 ghost use Rattle.key_stream.specs.Stream.{sealed_of};
@@ -11,7 +11,7 @@ ghost use Rattle.mesh_c.specs.Face.{as_it_is, count_list, item_list, found_list,
 use crate::field::from_u8;
 use base::Written;
 use composed_items::write_item;
-use heartbeats::{HeartbeatPayload, HeartbeatRead, PathRead, write_path};
+use heartbeats::{HeartbeatPayload, HeartbeatRead, PathRead, Paths};
 use items::{Command, Event, Item, ItemRead, Opening, OpeningRead};
 use key_stream::encrypt_events_commands;
 use keys::Aes128Key;
@@ -208,16 +208,10 @@ pub fn mesh_heartbeat_entry(
 }
 
 // A value of entries in three lists, the shortest of which counts: 0 with its length, or 10 to 13 of the first bad entry, 19, 21.
-pub fn mesh_heartbeat_write(
-    ids: &[u32],
-    rssis: &[i16],
-    snrs: &[i8],
-    out: &mut [u8],
-    length: &mut u64,
-) -> u8
-    ensures answer { result ≡ number_in (written_says (answer_of (beat_wire (paths_in (paths ids.now rssis.now snrs.now))) out.old)) }
-    ensures out { out.new ≡ out_of (beat_wire (paths_in (paths ids.now rssis.now snrs.now))) out.old }
-    ensures length { length.new ≡ left_by as_it_is length.old (written_says (answer_of (beat_wire (paths_in (paths ids.now rssis.now snrs.now))) out.old)) }
+pub fn mesh_heartbeat_write(entries: &Paths, out: &mut [u8], length: &mut u64) -> u8
+    ensures answer { result ≡ number_in (written_says (answer_of (beat_wire (paths_in entries.now)) out.old)) }
+    ensures out { out.new ≡ out_of (beat_wire (paths_in entries.now)) out.old }
+    ensures length { length.new ≡ left_by as_it_is length.old (written_says (answer_of (beat_wire (paths_in entries.now)) out.old)) }
 {
-    put_length(write_path(ids, rssis, snrs, out), length)
+    put_length(entries.write(out), length)
 }

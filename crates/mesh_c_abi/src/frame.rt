@@ -11,6 +11,7 @@ ghost use Rattle.hops.specs.Hops.{hop_edit, leaves};
 ghost use Rattle.numbers.specs.Numbers.{bit, mesh_numbers, mesh_rssi, mesh_snr, numbers_in, rssi_in, snr_in, bare_by, mesh_from, numbers_frame};
 ghost use Rattle.mesh_c.specs.Face.{as_it_is, numbers_body, numbers_signed, numbers_valid, numbers_sealed, numbers_seal, numbers_decrypted, numbers_work, numbers_decoded, signed_left, placed_left, opened_number, counts_left, opened_left, record_in};
 
+use contents::Lent;
 use numbers::PacketNumbers;
 
 #[unsafe(no_mangle)]
@@ -78,9 +79,8 @@ pub extern "C" fn mesh_write<'a>(
     ensures out { out.new ≡ out_of (numbers_frame (lent frame.now work.now kinds.now spans.now ids.now rssis.now snrs.now) numbers.now rssi snr) out.old }
     ensures length { length.new ≡ left_by as_it_is length.old (written_says (answer_of (numbers_frame (lent frame.now work.now kinds.now spans.now ids.now rssis.now snrs.now) numbers.now rssi snr) out.old)) }
 {
-    mesh_c::mesh_write(
-        numbers, rssi, snr, frame, work, kinds, spans, ids, rssis, snrs, out, length,
-    )
+    let lent = Lent::of(frame, work, kinds, spans, ids, rssis, snrs);
+    mesh_c::mesh_write(numbers, rssi, snr, &lent, out, length)
 }
 
 #[unsafe(no_mangle)]
@@ -102,9 +102,8 @@ pub extern "C" fn mesh_write_body<'a>(
     ensures out { out.new ≡ out_of (numbers_body (lent frame.now work.now kinds.now spans.now ids.now rssis.now snrs.now) numbers.now rssi snr) out.old }
     ensures length { length.new ≡ left_by as_it_is length.old (written_says (answer_of (numbers_body (lent frame.now work.now kinds.now spans.now ids.now rssis.now snrs.now) numbers.now rssi snr) out.old)) }
 {
-    mesh_c::mesh_write_body(
-        numbers, rssi, snr, frame, work, kinds, spans, ids, rssis, snrs, out, length,
-    )
+    let lent = Lent::of(frame, work, kinds, spans, ids, rssis, snrs);
+    mesh_c::mesh_write_body(numbers, rssi, snr, &lent, out, length)
 }
 
 #[unsafe(no_mangle)]
@@ -124,9 +123,8 @@ pub extern "C" fn mesh_sign<'a>(
     ensures answer { result ≡ number_in (mesh_says (numbers_signed (aes key.now) (lent frame.now work.now kinds.now spans.now ids.now rssis.now snrs.now) numbers.old rssi snr)) }
     ensures numbers { numbers.new ≡ signed_left numbers.old (mesh_says (numbers_signed (aes key.now) (lent frame.now work.now kinds.now spans.now ids.now rssis.now snrs.now) numbers.old rssi snr)) }
 {
-    mesh_c::mesh_sign(
-        numbers, rssi, snr, key, frame, work, kinds, spans, ids, rssis, snrs,
-    )
+    let lent = Lent::of(frame, work, kinds, spans, ids, rssis, snrs);
+    mesh_c::mesh_sign(numbers, rssi, snr, key, &lent)
 }
 
 #[unsafe(no_mangle)]
@@ -147,9 +145,8 @@ pub extern "C" fn mesh_validate<'a>(
     ensures answer { result ≡ number_in (valid_says (numbers_valid (aes key.now) (lent frame.now work.now kinds.now spans.now ids.now rssis.now snrs.now) numbers.now rssi snr)) }
     ensures valid { valid.new ≡ left_by bit valid.old (valid_says (numbers_valid (aes key.now) (lent frame.now work.now kinds.now spans.now ids.now rssis.now snrs.now) numbers.now rssi snr)) }
 {
-    mesh_c::mesh_validate(
-        numbers, rssi, snr, key, frame, work, kinds, spans, ids, rssis, snrs, valid,
-    )
+    let lent = Lent::of(frame, work, kinds, spans, ids, rssis, snrs);
+    mesh_c::mesh_validate(numbers, rssi, snr, key, &lent, valid)
 }
 
 #[unsafe(no_mangle)]
@@ -177,9 +174,8 @@ pub extern "C" fn mesh_seal<'a>(
     ensures numbers { numbers.new ≡ placed_left numbers.old (mesh_says (numbers_sealed key.now (lent frame.now work.now kinds.now spans.now ids.now rssis.now snrs.now) numbers.old out.old)) }
     ensures out { out.new ≡ out_of (numbers_seal key.now (lent frame.now work.now kinds.now spans.now ids.now rssis.now snrs.now) numbers.old) out.old }
 {
-    mesh_c::mesh_seal(
-        numbers, key, frame, work, kinds, spans, ids, rssis, snrs, out,
-    )
+    let lent = Lent::of(frame, work, kinds, spans, ids, rssis, snrs);
+    mesh_c::mesh_seal(numbers, key, &lent, out)
 }
 
 #[unsafe(no_mangle)]

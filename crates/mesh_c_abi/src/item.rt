@@ -8,6 +8,8 @@ ghost use Rattle.composed_items.specs.One.{one_wire};
 ghost use Rattle.key_stream.specs.Stream.{sealed_of};
 ghost use Rattle.mesh_c.specs.Face.{as_it_is, count_list, found_list, entries_in, entry_relay, entry_rssi, entry_snr, entry_odd};
 
+use heartbeats::Paths;
+
 #[unsafe(no_mangle)]
 pub extern "C" fn mesh_stream(
     key: &[u8; 16],
@@ -93,5 +95,5 @@ pub extern "C" fn mesh_heartbeat_write(
     ensures out { out.new ≡ out_of (beat_wire (paths_in (paths ids.now rssis.now snrs.now))) out.old }
     ensures length { length.new ≡ left_by as_it_is length.old (written_says (answer_of (beat_wire (paths_in (paths ids.now rssis.now snrs.now))) out.old)) }
 {
-    mesh_c::mesh_heartbeat_write(ids, rssis, snrs, out, length)
+    mesh_c::mesh_heartbeat_write(&Paths { ids, rssis, snrs }, out, length)
 }

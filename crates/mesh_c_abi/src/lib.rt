@@ -1,5 +1,5 @@
-// The functions that C and Rust call, each by the name and with the clauses that it has in mesh_c, which does its work. include/mesh.h
-// declares them.
+// The functions that C and Rust call, each by the name and with the clauses that it has in mesh_c, which does its work; what is one struct there
+// (`Lent`, `Paths`) C lends as separate slices. include/mesh.h declares them.
 #![tactic(auto)]
 
 ghost use Rattle.std.specs.Prelude.{◌≡◌};

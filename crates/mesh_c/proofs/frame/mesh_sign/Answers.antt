@@ -6,11 +6,10 @@ use Rattle.packets.specs.Read.{mesh_says}
 use Rattle.packets.specs.declared.mesh.MeshRead.{MeshRead}
 use Rattle.fips197.specs.Aes.{aes}
 use Rattle.keys.specs.declared.Aes128Key.{Aes128Key}
-use Rattle.contents.specs.Content.{lent}
 use Rattle.mesh_c.specs.Face.{numbers_signed, signed_left}
 use Rattle.mesh_c.proofs.frame.mesh_sign.Goals as goal
 
 pub returns : goal.returns
 returns c =
     let a = c.args in
-    let s = (rw (to_z-of_z c.ranges.rssi, to_z-of_z c.ranges.snr) at c.sign_numbers-read.ensures) ∙ ap (λ (k : Aes128Key). numbers_signed (aes k.0) (lent a.frame.now a.work.now a.kinds.now a.spans.now a.ids.now a.rssis.now a.snrs.now) a.numbers.now a.rssi a.snr) c.from_bytes.ensures in record { answer = c.put_signed.ensures.answer ∙ ap (λ (m : MeshRead). number_in (mesh_says m)) s; numbers = c.put_signed.ensures.numbers ∙ ap (λ (m : MeshRead). signed_left a.numbers.now (mesh_says m)) s }
+    let s = (rw (to_z-of_z c.ranges.rssi, to_z-of_z c.ranges.snr) at c.sign_numbers-read.ensures) ∙ ap (λ (k : Aes128Key). numbers_signed (aes k.0) a.lent.now a.numbers.now a.rssi a.snr) c.from_bytes.ensures in record { answer = c.put_signed.ensures.answer ∙ ap (λ (m : MeshRead). number_in (mesh_says m)) s; numbers = c.put_signed.ensures.numbers ∙ ap (λ (m : MeshRead). signed_left a.numbers.now (mesh_says m)) s }

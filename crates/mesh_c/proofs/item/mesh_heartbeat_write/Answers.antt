@@ -8,4 +8,4 @@ use Rattle.mesh_c.proofs.item.mesh_heartbeat_write.Goals as goal
 pub returns : goal.returns
 returns c =
     let a = c.args in
-    record { answer = c.put_length.ensures.answer ∙ ap (λ (x : Written). number_in (written_says x)) c.write_path.ensures.answer; out = c.write_path.ensures.bytes; length = c.put_length.ensures.length ∙ ap (λ (x : Written). left_by as_it_is a.length.now (written_says x)) c.write_path.ensures.answer }
+    record { answer = c.put_length.ensures.answer ∙ ap (λ (x : Written). number_in (written_says x)) c.write.ensures.answer; out = c.write.ensures.bytes; length = c.put_length.ensures.length ∙ ap (λ (x : Written). left_by as_it_is a.length.now (written_says x)) c.write.ensures.answer }
