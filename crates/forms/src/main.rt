@@ -22,10 +22,6 @@ use packets::{MeshPacket, MeshRead};
 use std::io;
 use wire::{Run, be16_bytes, be16_of, part, write_hex};
 
-fn plain(rt: &impl Print, label: &str, x: u64) -> io::Result<()> {
-    print!(rt; "{label}{x}")
-}
-
 // Bytes in hex, 32 of them at most.
 fn hex(rt: &impl Print, label: &str, bytes: &[u8]) -> io::Result<()> {
     print!(rt; "{label}")?;
@@ -48,7 +44,7 @@ fn answer(rt: &impl Print, a: CacheAnswer) -> io::Result<()> {
     match a {
         CacheAnswer::New => print!(rt; " yes"),
         CacheAnswer::Seen => print!(rt; " no"),
-        CacheAnswer::Refused(n) => plain(rt, " refused ", n as u64),
+        CacheAnswer::Refused(n) => print!(rt; " refused {n}"),
     }
 }
 
@@ -62,12 +58,10 @@ fn add(rt: &impl Print, c: Cache, id: u16) -> io::Result<Cache> {
 // Which of the three records a cache would not take for new, asked of a copy.
 fn holds(rt: &impl Print, label: &str, c: Cache) -> io::Result<()> {
     print!(rt; "{label}")?;
-    let a = c.added(record(1)).answer;
-    answer(rt, a)?;
-    let b = c.added(record(2)).answer;
-    answer(rt, b)?;
-    let d = c.added(record(3)).answer;
-    answer(rt, d)?;
+    for id in 1..=3 {
+        let a = c.added(record(id)).answer;
+        answer(rt, a)?;
+    }
     println!(rt)
 }
 
@@ -93,14 +87,11 @@ fn p12_in_words(rt: &impl Print) -> io::Result<()> {
     let mut words: Words = [0; 195];
     match cache_words::clear(&mut words, 2) {
         Checked::Accepted => {}
-        Checked::Refused(n) => plain(rt, " refused ", n as u64)?,
+        Checked::Refused(n) => print!(rt; " refused {n}")?,
     }
-    answer(rt, cache_words::add(&mut words, record(1)))?;
-    answer(rt, cache_words::add(&mut words, record(2)))?;
-    answer(rt, cache_words::add(&mut words, record(1)))?;
-    answer(rt, cache_words::add(&mut words, record(3)))?;
-    answer(rt, cache_words::add(&mut words, record(1)))?;
-    answer(rt, cache_words::add(&mut words, record(2)))?;
+    for id in [1, 2, 1, 3, 1, 2] {
+        answer(rt, cache_words::add(&mut words, record(id)))?;
+    }
     println!(rt)
 }
 
@@ -110,7 +101,7 @@ fn refused_size(rt: &impl Print, label: &str, size: usize) -> io::Result<()> {
     let told = made.answer;
     match told {
         Checked::Accepted => print!(rt; " accepted")?,
-        Checked::Refused(n) => plain(rt, " refused ", n as u64)?,
+        Checked::Refused(n) => print!(rt; " refused {n}")?,
     }
     let c = add(rt, made.cache, 1)?;
     holds(rt, "", c)
@@ -136,13 +127,13 @@ fn reads(rt: &impl Print, label: &str, b: &[u8]) -> io::Result<[RelayPath; 3]> {
     let read = lent::read_three(b, [none; 3]);
     let answer = read.answer;
     match answer {
-        HeartbeatRead::Heartbeat(h) => plain(rt, "entries ", h.entries as u64)?,
-        HeartbeatRead::Refused(n) => plain(rt, "refused ", n as u64)?,
+        HeartbeatRead::Heartbeat(h) => print!(rt; "entries {}", h.entries)?,
+        HeartbeatRead::Refused(n) => print!(rt; "refused {n}")?,
     }
     let list = read.list;
-    entry(rt, list[0])?;
-    entry(rt, list[1])?;
-    entry(rt, list[2])?;
+    for p in list {
+        entry(rt, p)?;
+    }
     println!(rt)?;
     Ok(list)
 }
@@ -152,7 +143,7 @@ fn one(rt: &impl Print, label: &str, b: &[u8], i: usize) -> io::Result<()> {
     print!(rt; "{label}")?;
     match HeartbeatPayload::entry(b, i) {
         PathRead::Entry(p) => entry(rt, p)?,
-        PathRead::Refused(n) => plain(rt, " refused ", n as u64)?,
+        PathRead::Refused(n) => print!(rt; " refused {n}")?,
     }
     println!(rt)
 }
@@ -170,8 +161,8 @@ fn entries(rt: &impl Print) -> io::Result<()> {
 fn writes(rt: &impl Print, label: &str, list: [RelayPath; 2], out: &mut [u8]) -> io::Result<()> {
     print!(rt; "{label}")?;
     match lent::write_two(list, out) {
-        Written::Bytes(n) => plain(rt, "bytes ", n as u64)?,
-        Written::Refused(n) => plain(rt, "refused ", n as u64)?,
+        Written::Bytes(n) => print!(rt; "bytes {n}")?,
+        Written::Refused(n) => print!(rt; "refused {n}")?,
     }
     hex(rt, " ", out)?;
     println!(rt)
@@ -218,7 +209,7 @@ fn value<'a>(
     let mut refused = 0u8;
     hex(rt, label, content.value(item, frame, work, &mut refused))?;
     if refused != 0 {
-        plain(rt, "refused ", refused as u64)?;
+        print!(rt; "refused {refused}")?;
     }
     println!(rt)
 }
@@ -272,7 +263,7 @@ fn values(rt: &impl Print) -> io::Result<()> {
         work,
     )?;
     let sealed = Item::sealed(Run { start: 2, len: 3 });
-    plain(rt, "a sealed run's type      ", sealed.get_type() as u64)?;
+    print!(rt; "a sealed run's type      {}", sealed.get_type())?;
     value(rt, ", value ", in_work, sealed, frame, work)
 }
 
@@ -280,7 +271,7 @@ fn values(rt: &impl Print) -> io::Result<()> {
 fn made(rt: &impl Print, w: Written, out: &[u8]) -> io::Result<()> {
     match w {
         Written::Bytes(n) => hex(rt, "", part(out, 0, n)),
-        Written::Refused(n) => plain(rt, "refused ", n as u64),
+        Written::Refused(n) => print!(rt; "refused {n}"),
     }
 }
 
@@ -316,17 +307,17 @@ fn encodings(rt: &impl Print) -> io::Result<()> {
 fn known(rt: &impl Print, label: &str, r: PayloadCache) -> io::Result<()> {
     let p_type = r.p_type;
     print!(rt; "{label}")?;
-    plain(rt, "type ", p_type.to_byte() as u64)?;
-    plain(rt, ", id ", r.uplink_id as u64)?;
-    plain(rt, ", time ", r.timestamp as u64)?;
-    plain(rt, ", relay ", r.relay_id as u64)?;
+    print!(rt; "type {}", p_type.to_byte())?;
+    print!(rt; ", id {}", r.uplink_id)?;
+    print!(rt; ", time {}", r.timestamp)?;
+    print!(rt; ", relay {}", r.relay_id)?;
     println!(rt)
 }
 
 fn recorded(rt: &impl Print, label: &str, frame: &[u8]) -> io::Result<()> {
     match MeshPacket::from_slice(frame) {
         MeshRead::Mesh(p) => known(rt, label, PayloadCache::from_packet(p)),
-        MeshRead::Refused(n) => plain(rt, label, n as u64),
+        MeshRead::Refused(n) => print!(rt; "{label}{n}"),
     }
 }
 
@@ -334,24 +325,24 @@ fn recorded(rt: &impl Print, label: &str, frame: &[u8]) -> io::Result<()> {
 fn bodies(rt: &impl Print) -> io::Result<()> {
     let meta = b"\x12\x35\x50\x07\x02\x0a\x0b\x0c\x0d\x40";
     match UplinkPayload::from_slice(meta) {
-        UplinkRead::Payload(p) => plain(rt, "relay id of an uplink    ", p.relay_id as u64)?,
-        UplinkRead::Refused(n) => plain(rt, "refused                  ", n as u64)?,
+        UplinkRead::Payload(p) => print!(rt; "relay id of an uplink    {}", p.relay_id)?,
+        UplinkRead::Refused(n) => print!(rt; "refused                  {n}")?,
     }
     println!(rt)?;
     match DownlinkPayload::from_slice(meta) {
-        DownlinkRead::Payload(p) => plain(rt, "relay id of a downlink   ", p.relay_id as u64)?,
-        DownlinkRead::Refused(n) => plain(rt, "refused                  ", n as u64)?,
+        DownlinkRead::Payload(p) => print!(rt; "relay id of a downlink   {}", p.relay_id)?,
+        DownlinkRead::Refused(n) => print!(rt; "refused                  {n}")?,
     }
     println!(rt)?;
     let stamped = b"\x00\x00\x00\x3c\x0a\x0b\x0c";
     match EventPayload::from_slice(stamped) {
-        EventRead::Payload(p) => plain(rt, "relay id of an event     ", p.relay_id as u64)?,
-        EventRead::Refused(n) => plain(rt, "an event of seven bytes  ", n as u64)?,
+        EventRead::Payload(p) => print!(rt; "relay id of an event     {}", p.relay_id)?,
+        EventRead::Refused(n) => print!(rt; "an event of seven bytes  {n}")?,
     }
     println!(rt)?;
     match CommandPayload::from_slice(stamped) {
-        CommandRead::Payload(p) => plain(rt, "relay id of a command    ", p.relay_id as u64)?,
-        CommandRead::Refused(n) => plain(rt, "a command of seven bytes ", n as u64)?,
+        CommandRead::Payload(p) => print!(rt; "relay id of a command    {}", p.relay_id)?,
+        CommandRead::Refused(n) => print!(rt; "a command of seven bytes {n}")?,
     }
     println!(rt)
 }
@@ -406,7 +397,7 @@ fn limits(rt: &impl Print) -> io::Result<()> {
 }
 
 fn two_bytes(rt: &impl Print) -> io::Result<()> {
-    plain(rt, "0f a1                    ", be16_of(0x0f, 0xa1) as u64)?;
+    print!(rt; "0f a1                    {}", be16_of(0x0f, 0xa1))?;
     hex(rt, ", and back ", &be16_bytes(4001))?;
     println!(rt)
 }

@@ -2,8 +2,6 @@
 // a cache and hop edits of one frame, and prints a line for each. The file stdout beside src/ has the published values; the gate compares.
 #![tactic(auto)]
 
-ghost use Rattle.std.specs.Prelude.{◌≤◌};
-
 use base::{Checked, Written};
 use cache::{Cache, CacheAnswer, PayloadCache};
 use cipher::prepare;
@@ -76,86 +74,66 @@ fn fips197(rt: &impl Print) -> io::Result<()> {
     )
 }
 
-// Sixteen of the S-box's values, and the end of the line.
-fn row(rt: &impl Print, label: &str, t: &[u8; 256], at: usize) -> io::Result<()> {
-    hex(rt, label, part(t, at, 16))?;
-    println!(rt)
-}
-
 fn sbox(rt: &impl Print) -> io::Result<()> {
-    let t = sbox_table();
-    row(rt, "FIPS 197 table 4, row 0  ", &t, 0)?;
-    row(rt, "FIPS 197 table 4, row 1  ", &t, 16)?;
-    row(rt, "FIPS 197 table 4, row 2  ", &t, 32)?;
-    row(rt, "FIPS 197 table 4, row 3  ", &t, 48)?;
-    row(rt, "FIPS 197 table 4, row 4  ", &t, 64)?;
-    row(rt, "FIPS 197 table 4, row 5  ", &t, 80)?;
-    row(rt, "FIPS 197 table 4, row 6  ", &t, 96)?;
-    row(rt, "FIPS 197 table 4, row 7  ", &t, 112)?;
-    row(rt, "FIPS 197 table 4, row 8  ", &t, 128)?;
-    row(rt, "FIPS 197 table 4, row 9  ", &t, 144)?;
-    row(rt, "FIPS 197 table 4, row a  ", &t, 160)?;
-    row(rt, "FIPS 197 table 4, row b  ", &t, 176)?;
-    row(rt, "FIPS 197 table 4, row c  ", &t, 192)?;
-    row(rt, "FIPS 197 table 4, row d  ", &t, 208)?;
-    row(rt, "FIPS 197 table 4, row e  ", &t, 224)?;
-    row(rt, "FIPS 197 table 4, row f  ", &t, 240)
+    for (i, row) in sbox_table().chunks_exact(16).enumerate() {
+        print!(rt; "FIPS 197 table 4, row {i:x}  ")?;
+        hex(rt, "", row)?;
+        println!(rt)?;
+    }
+    Ok(())
 }
 
 fn sp800_38a(rt: &impl Print) -> io::Result<()> {
     let key = b"2b7e151628aed2a6abf7158809cf4f3c";
-    block(
-        rt,
-        "SP 800-38A F.1.1 block 1 ",
-        key,
-        b"6bc1bee22e409f96e93d7e117393172a",
-    )?;
-    block(
-        rt,
-        "SP 800-38A F.1.1 block 2 ",
-        key,
-        b"ae2d8a571e03ac9c9eb76fac45af8e51",
-    )?;
-    block(
-        rt,
-        "SP 800-38A F.1.1 block 3 ",
-        key,
-        b"30c81c46a35ce411e5fbc1191a0a52ef",
-    )?;
-    block(
-        rt,
-        "SP 800-38A F.1.1 block 4 ",
-        key,
-        b"f69f2445df4f9b17ad2b417be66c3710",
-    )
+    for (label, plain) in [
+        (
+            "SP 800-38A F.1.1 block 1 ",
+            b"6bc1bee22e409f96e93d7e117393172a",
+        ),
+        (
+            "SP 800-38A F.1.1 block 2 ",
+            b"ae2d8a571e03ac9c9eb76fac45af8e51",
+        ),
+        (
+            "SP 800-38A F.1.1 block 3 ",
+            b"30c81c46a35ce411e5fbc1191a0a52ef",
+        ),
+        (
+            "SP 800-38A F.1.1 block 4 ",
+            b"f69f2445df4f9b17ad2b417be66c3710",
+        ),
+    ] {
+        block(rt, label, key, plain)?;
+    }
+    Ok(())
 }
 
-fn tags(rt: &impl Print, key: Aes128Key, m: &[u8]) -> io::Result<()> {
-    line(rt, "RFC 4493 example 1       ", cmac(key, part(m, 0, 0)))?;
-    line(rt, "RFC 4493 example 2       ", cmac(key, part(m, 0, 16)))?;
-    line(rt, "RFC 4493 example 3       ", cmac(key, part(m, 0, 40)))?;
+fn tags(rt: &impl Print, key: Aes128Key, m: &[u8; 64]) -> io::Result<()> {
+    line(rt, "RFC 4493 example 1       ", cmac(key, &m[..0]))?;
+    line(rt, "RFC 4493 example 2       ", cmac(key, &m[..16]))?;
+    line(rt, "RFC 4493 example 3       ", cmac(key, &m[..40]))?;
     line(rt, "RFC 4493 example 4       ", cmac(key, m))
 }
 
 // The two longer examples again, in pieces that end inside a block, at its end and nowhere.
-fn pieces(rt: &impl Print, key: Aes128Key, m: &[u8]) -> io::Result<()> {
+fn pieces(rt: &impl Print, key: Aes128Key, m: &[u8; 64]) -> io::Result<()> {
     let e = prepare(key);
-    let a = absorb(Mac::start(), &e, part(m, 0, 7));
-    let b = absorb(a, &e, part(m, 7, 25));
+    let a = absorb(Mac::start(), &e, &m[..7]);
+    let b = absorb(a, &e, &m[7..32]);
     line(
         rt,
         "example 3 in pieces      ",
-        finish(absorb(b, &e, part(m, 32, 8)), &e),
+        finish(absorb(b, &e, &m[32..40]), &e),
     )?;
-    let c = absorb(b, &e, part(m, 32, 0));
+    let c = absorb(b, &e, &m[32..32]);
     line(
         rt,
         "example 4 in pieces      ",
-        finish(absorb(c, &e, part(m, 32, 32)), &e),
+        finish(absorb(c, &e, &m[32..64]), &e),
     )
 }
 
-fn both(rt: &impl Print, key: Aes128Key, m: &[u8]) -> io::Result<()> {
+fn both(rt: &impl Print, key: Aes128Key, m: &[u8; 64]) -> io::Result<()> {
     tags(rt, key, m)?;
     pieces(rt, key, m)
 }
@@ -194,85 +172,59 @@ fn keys(rt: &impl Print) -> io::Result<()> {
 
 fn key_lengths(rt: &impl Print) -> io::Result<()> {
     let some = [7u8; 17];
-    key_read(
-        rt,
-        "key of no bytes          ",
-        Aes128Key::from_slice(part(&some, 0, 0)),
-    )?;
-    key_read(
-        rt,
-        "key of 15 bytes          ",
-        Aes128Key::from_slice(part(&some, 0, 15)),
-    )?;
-    key_read(
-        rt,
-        "key of 16 bytes          ",
-        Aes128Key::from_slice(part(&some, 0, 16)),
-    )?;
-    key_read(
-        rt,
-        "key of 17 bytes          ",
-        Aes128Key::from_slice(&some),
-    )
-}
-
-// A text, with the label before it.
-fn text(rt: &impl Print, label: &str, digits: &[u8]) -> io::Result<()> {
-    key_read(rt, label, Aes128Key::from_str(digits))
+    for (label, n) in [
+        ("key of no bytes          ", 0),
+        ("key of 15 bytes          ", 15),
+        ("key of 16 bytes          ", 16),
+        ("key of 17 bytes          ", 17),
+    ] {
+        key_read(rt, label, Aes128Key::from_slice(part(&some, 0, n)))?;
+    }
+    Ok(())
 }
 
 fn key_texts(rt: &impl Print) -> io::Result<()> {
-    text(
-        rt,
-        "text in upper case       ",
-        b"2B7E151628AED2A6ABF7158809CF4F3C",
-    )?;
-    text(
-        rt,
-        "text of 31 digits        ",
-        b"2b7e151628aed2a6abf7158809cf4f3",
-    )?;
-    text(
-        rt,
-        "text of 33 digits        ",
-        b"2b7e151628aed2a6abf7158809cf4f3c0",
-    )?;
-    text(
-        rt,
-        "text of 31, one no digit ",
-        b"2g7e151628aed2a6abf7158809cf4f3",
-    )?;
-    text(
-        rt,
-        "text with a g            ",
-        b"2b7e151628aed2a6abf7158809cf4f3g",
-    )?;
-    text(
-        rt,
-        "text with a blank        ",
-        b" b7e151628aed2a6abf7158809cf4f3c",
-    )
+    for (label, text) in [
+        (
+            "text in upper case       ",
+            b"2B7E151628AED2A6ABF7158809CF4F3C".as_slice(),
+        ),
+        (
+            "text of 31 digits        ",
+            b"2b7e151628aed2a6abf7158809cf4f3".as_slice(),
+        ),
+        (
+            "text of 33 digits        ",
+            b"2b7e151628aed2a6abf7158809cf4f3c0".as_slice(),
+        ),
+        (
+            "text of 31, one no digit ",
+            b"2g7e151628aed2a6abf7158809cf4f3".as_slice(),
+        ),
+        (
+            "text with a g            ",
+            b"2b7e151628aed2a6abf7158809cf4f3g".as_slice(),
+        ),
+        (
+            "text with a blank        ",
+            b" b7e151628aed2a6abf7158809cf4f3c".as_slice(),
+        ),
+    ] {
+        key_read(rt, label, Aes128Key::from_str(text))?;
+    }
+    Ok(())
 }
 
-// Whether a text of zeros that ends in the byte is a key's: 1 or 0.
-fn taken(b: u8) -> u64
-    ensures { result ≤ 1 }
-{
+// Whether a text of zeros that ends in the byte is a key's.
+fn is_taken(b: u8) -> bool {
     let mut text = [b'0'; 32];
     text[31] = b;
-    let answer = Aes128Key::from_str(&text).answer;
-    match answer {
-        Checked::Accepted => 1,
-        Checked::Refused(_) => 0,
-    }
+    matches!(Aes128Key::from_str(&text).answer, Checked::Accepted)
 }
 
 // Of the 256 bytes 22 are digits: ten, and six in either case.
 fn every_byte(rt: &impl Print) -> io::Result<()> {
-    let mut count: u64 = 0;
-    for i in 0usize..256 {
-        count += taken(i as u8);
-    }
+    let count = (0..=u8::MAX).filter(|b| is_taken(*b)).count();
     println!(rt; "bytes that are digits    {count}")
 }
 
@@ -341,22 +293,8 @@ fn uplink_written(rt: &impl Print, m: UplinkMetadata) -> io::Result<()> {
 }
 
 fn same(a: UplinkMetadata, b: UplinkMetadata) -> bool {
-    if a.uplink_id != b.uplink_id {
-        return false;
-    }
-    if a.dr != b.dr {
-        return false;
-    }
-    if a.rssi != b.rssi {
-        return false;
-    }
-    if a.snr != b.snr {
-        return false;
-    }
-    if a.odd != b.odd {
-        return false;
-    }
-    a.channel == b.channel
+    (a.uplink_id, a.dr, a.rssi, a.snr, a.odd, a.channel)
+        == (b.uplink_id, b.dr, b.rssi, b.snr, b.odd, b.channel)
 }
 
 // Whether the bytes are read as the document has it, and what is written again.
