@@ -259,9 +259,9 @@ mesh_read_body κs a x y v w p q = (
       ∙ ap₂ (λ (b : ℤ) (c : ℤ). (tt, (tt, (w.1.1.0, (b, (c, tt)))))) (p.1.1.0 ∙ sym q.1.1.0) (p.1.1.1 ∙ sym q.1.1.1),
 )
 
-mesh_write : Fixed 5 mesh_write_kinds.ps mesh_write_kinds.r mesh_write_reads.Post
+mesh_write : Fixed 9 mesh_write_kinds.ps mesh_write_kinds.r mesh_write_reads.Post
 mesh_write κs a x y v w p q =
-    (p.0 ∙ sym q.0, ap₂ (λ (a : List ℕ) (b : ℕ). (tt, (tt, (tt, (tt, (a, (b, tt))))))) (p.1.0 ∙ sym q.1.0) (p.1.1 ∙ sym q.1.1))
+    (p.0 ∙ sym q.0, ap₂ (λ (a : List ℕ) (b : ℕ). (tt, (tt, (tt, (tt, (tt, (tt, (tt, (tt, (tt, (tt, (a, (b, tt))))))))))))) (p.1.0 ∙ sym q.1.0) (p.1.1 ∙ sym q.1.1))
 
 mesh_write_body : Fixed 5 mesh_write_body_kinds.ps mesh_write_body_kinds.r mesh_write_body_reads.Post
 mesh_write_body κs a x y v w p q =

@@ -3,6 +3,7 @@ ghost use Rattle.std.specs.Prelude.{◌≡◌, pos};
 ghost use Rattle.base.specs.Answers.{answer_of, out_of, number_in, left_by, written_says, checked_of, checked_number};
 ghost use Rattle.fips197.specs.Aes.{aes};
 ghost use Rattle.fields.specs.Header.{type_read};
+ghost use Rattle.contents.specs.Content.{lent};
 ghost use Rattle.links.specs.Write.{limited_of};
 ghost use Rattle.packets.specs.Read.{packet_says, packet_of, mesh_says, mesh_of};
 ghost use Rattle.packets.specs.Write.{payload_wire};
@@ -68,20 +69,31 @@ pub fn mesh_read_body(
 
 // ---- writing
 
-// 29, then in the order of writing; the frame's length in `length`.
-pub fn mesh_write(
+// 29, then in the order of writing; the frame's length in `length`. The slices stay apart as in `write_numbers`.
+pub fn mesh_write<'a>(
     numbers: &PacketNumbers,
     rssi: i16,
     snr: i8,
-    lent: &Lent,
+    frame: &'a [u8],
+    work: &'a [u8],
+    kinds: &[[u8; 2]],
+    spans: &[[u32; 2]],
+    ids: &[u32],
+    rssis: &[i16],
+    snrs: &[i8],
     out: &mut [u8],
     length: &mut u64,
 ) -> u8
-    ensures answer { result ≡ number_in (written_says (answer_of (numbers_frame lent.now numbers.now rssi snr) out.old)) }
-    ensures out { out.new ≡ out_of (numbers_frame lent.now numbers.now rssi snr) out.old }
-    ensures length { length.new ≡ left_by as_it_is length.old (written_says (answer_of (numbers_frame lent.now numbers.now rssi snr) out.old)) }
+    ensures answer { result ≡ number_in (written_says (answer_of (numbers_frame (lent frame.now work.now kinds.now spans.now ids.now rssis.now snrs.now) numbers.now rssi snr) out.old)) }
+    ensures out { out.new ≡ out_of (numbers_frame (lent frame.now work.now kinds.now spans.now ids.now rssis.now snrs.now) numbers.now rssi snr) out.old }
+    ensures length { length.new ≡ left_by as_it_is length.old (written_says (answer_of (numbers_frame (lent frame.now work.now kinds.now spans.now ids.now rssis.now snrs.now) numbers.now rssi snr) out.old)) }
 {
-    put_length(write_numbers(numbers, rssi, snr, lent, out), length)
+    put_length(
+        write_numbers(
+            numbers, rssi, snr, frame, work, kinds, spans, ids, rssis, snrs, out,
+        ),
+        length,
+    )
 }
 
 fn write_payload(payload: Payload, lent: &Lent, out: &mut [u8]) -> Written

@@ -79,8 +79,9 @@ pub extern "C" fn mesh_write<'a>(
     ensures out { out.new ≡ out_of (numbers_frame (lent frame.now work.now kinds.now spans.now ids.now rssis.now snrs.now) numbers.now rssi snr) out.old }
     ensures length { length.new ≡ left_by as_it_is length.old (written_says (answer_of (numbers_frame (lent frame.now work.now kinds.now spans.now ids.now rssis.now snrs.now) numbers.now rssi snr) out.old)) }
 {
-    let lent = Lent::of(frame, work, kinds, spans, ids, rssis, snrs);
-    mesh_c::mesh_write(numbers, rssi, snr, &lent, out, length)
+    mesh_c::mesh_write(
+        numbers, rssi, snr, frame, work, kinds, spans, ids, rssis, snrs, out, length,
+    )
 }
 
 #[unsafe(no_mangle)]

@@ -84,6 +84,6 @@ read_numbers κs a x y v w p q = (
       ∙ ap₂ (λ (b : ℤ) (c : ℤ). (tt, (w.1.0, (b, (c, tt))))) (p.1.1.0 ∙ sym q.1.1.0) (p.1.1.1 ∙ sym q.1.1.1),
 )
 
-write_numbers : Fixed 4 write_numbers_kinds.ps write_numbers_kinds.r write_numbers_reads.Post
+write_numbers : Fixed 8 write_numbers_kinds.ps write_numbers_kinds.r write_numbers_reads.Post
 write_numbers κs a x y v w p q =
-    (p.0 ∙ sym q.0, ap (λ (a : List ℕ). (tt, (tt, (tt, (tt, (a, tt)))))) (p.1 ∙ sym q.1))
+    (p.0 ∙ sym q.0, ap (λ (a : List ℕ). (tt, (tt, (tt, (tt, (tt, (tt, (tt, (tt, (tt, (tt, (a, tt)))))))))))) (p.1 ∙ sym q.1))

@@ -1,6 +1,7 @@
 // The packet that numbers stand for, written.
 ghost use Rattle.std.specs.Prelude.{◌≡◌};
 ghost use Rattle.base.specs.Answers.{answer_of, out_of};
+ghost use Rattle.contents.specs.Content.{lent};
 ghost use Rattle.links.specs.Write.{uplink_wire, prefixed, with_mic};
 ghost use Rattle.numbers.specs.Numbers.{numbers_frame};
 
@@ -52,19 +53,26 @@ fn write_any(numbers: &PacketNumbers, rssi: i16, snr: i8, lent: &Lent, out: &mut
 }
 
 // 29, then in the order of writing. An uplink is written straight from its numbers: as a packet it would be built in memory and taken
-// apart again.
-pub fn write_numbers(
+// apart again. The seven slices stay apart for it: laid out as one struct before, they cost an uplink a fifth (28 ns for 23).
+pub fn write_numbers<'a>(
     numbers: &PacketNumbers,
     rssi: i16,
     snr: i8,
-    lent: &Lent,
+    frame: &'a [u8],
+    work: &'a [u8],
+    kinds: &[[u8; 2]],
+    spans: &[[u32; 2]],
+    ids: &[u32],
+    rssis: &[i16],
+    snrs: &[i8],
     out: &mut [u8],
 ) -> Written
-    ensures answer { result ≡ answer_of (numbers_frame lent.now numbers.now rssi snr) out.old }
-    ensures out { out.new ≡ out_of (numbers_frame lent.now numbers.now rssi snr) out.old }
+    ensures answer { result ≡ answer_of (numbers_frame (lent frame.now work.now kinds.now spans.now ids.now rssis.now snrs.now) numbers.now rssi snr) out.old }
+    ensures out { out.new ≡ out_of (numbers_frame (lent frame.now work.now kinds.now spans.now ids.now rssis.now snrs.now) numbers.now rssi snr) out.old }
 {
     if numbers[0] != PayloadType::UPLINK as u64 {
-        return write_any(numbers, rssi, snr, lent, out);
+        let lent = Lent::of(frame, work, kinds, spans, ids, rssis, snrs);
+        return write_any(numbers, rssi, snr, &lent, out);
     }
     if too_wide(numbers) {
         return Written::Refused(Refusal::TYPE_LARGE);
@@ -83,7 +91,7 @@ pub fn write_numbers(
                     b,
                     numbers[3] != 0,
                     to_u32(numbers[4]),
-                    lent.frame,
+                    frame,
                     out,
                 ),
             }
