@@ -3,15 +3,18 @@
 use Prim.Native.Nat.{ℕ, zero, suc, ◌+◌, ◌-◌, ◌≤◌, ◌<◌}
 use native.Mathlib.Omega.{arith}
 use mathlib.Core.Bool.{Bool, true, false}
-use mathlib.Core.Path.{◌≡◌, refl, ap, ap₂, ◌∙◌}
+use mathlib.Core.Path.{◌≡◌, refl, sym, ap, ap₂, ◌∙◌}
 use mathlib.Core.List.{List, [], ◌∷◌}
+use Rattle.std.proofs.Common.{◌⊎◌, inl, inr}
 use lib.Dec.{ltb, leb}
 use lib.ListN.{length, get_or, take, drop, length-drop, drop_of_length-le}
 use lib.Seq.{drop-cons, drop-drop, length-take-le}
 use borrow.Author.Tests.{lt-ltb, le-ltb, le-leb, lt-leb, ltb-true, ltb-false, leb-true, leb-false}
 use Rattle.base.specs.Pick.{pick}
 use Rattle.wire.specs.Part.{part_of}
-use Rattle.items.specs.Items.{bad_beat, Piece, kept, skipped, cut, pieces, item_at, kept_bytes, skipped_bytes, cut_bytes, item_of, cut_at, Turn, next_of, walked_to}
+use Rattle.wire.specs.declared.run.Run.{Run}
+use Rattle.items.specs.Items.{bad_beat, Piece, kept, skipped, cut, pieces, item_at, kept_bytes, skipped_bytes, cut_bytes, item_of, cut_at, Turn, next_of, walked_to, goes_on_to}
+use Rattle.std.specs.Prelude.{Some}
 use Rattle.items.specs.declared.item.Item.{Item}
 use Rattle.items.specs.declared.item.ItemRead.{ItemRead}
 use Rattle.items.specs.declared.item.ItemRead.TheVariants.{Kept, Skipped, Cut, End, Refused}
@@ -86,6 +89,31 @@ module _ (ev : Bool) (s : List ℕ) (at : ℕ) where
   -- whatever the reader answers
   pub turn : (r : ItemRead) → item_at ev s at ≡ r → Turn ev s at r
   turn r e = rw e at (tests _ _ _ refl refl refl)
+
+-- an iterator over the items goes on behind what it gives, and gives nothing at the end
+module _ (ev : Bool) (s : List ℕ) (at : ℕ) (r : ItemRead) (e : item_at ev s at ≡ r) where
+  pub ahead : (nx : ℕ) → ((i : Item) × (r ≡ Kept i nx)) ⊎ (((i : Item) × (r ≡ Skipped i nx)) ⊎ ((t : Run) × (r ≡ Cut t nx))) → (at < length s) × (nx ≡ next_of r) × (nx ≤ length s) × (at < nx)
+  ahead nx (inl (i, q)) = let t = turn ev s at _ (e ∙ q) in (omega arith, sym (ap next_of q), omega arith, omega arith)
+  ahead nx (inr (inl (i, q))) = let t = turn ev s at _ (e ∙ q) in (omega arith, sym (ap next_of q), omega arith, omega arith)
+  ahead nx (inr (inr (i, q))) = let t = turn ev s at _ (e ∙ q) in (omega arith, sym (ap next_of q), omega arith, omega arith)
+
+  pub over : ((nx : ℕ) × (r ≡ End nx)) ⊎ ((n : ℕ) × (r ≡ Refused n)) → length s ≤ at
+  over (inl (nx, q)) = (turn ev s at _ (e ∙ q)).1
+  over (inr (n, q)) = absurd (turn ev s at _ (e ∙ q))
+
+-- what an iterator over the items gave
+module _ {ev ev1 ev2 : Bool} {s s1 s2 : List ℕ} {at at2 : ℕ} {r : ItemRead} (x : ItemRead) where
+  pub came : ev1 ≡ ev → s1 ≡ s → goes_on_to ev1 s1 at (Some r) ev2 s2 at2 → r ≡ x → (ev2 ≡ ev) × (s2 ≡ s) × (item_at ev s at ≡ x) × (at2 ≡ next_of x)
+  came p q m e = (m.0 ∙ p, m.1 ∙ q, sym (ap₂ (λ (b : Bool) (l : List ℕ). item_at b l at) p q) ∙ m.2.1 ∙ e, m.2.2 ∙ ap next_of e)
+
+-- which is an item or a cut tail
+pub no_other : (ev : Bool) (s : List ℕ) (at : ℕ) (r : ItemRead) → item_at ev s at ≡ r → at < length s → ((i : Item) (nx : ℕ) → r ≡ Kept i nx → ⊥) → ((i : Item) (nx : ℕ) → r ≡ Skipped i nx → ⊥)
+    → ((t : Run) (nx : ℕ) → r ≡ Cut t nx → ⊥) → ⊥
+no_other ev s at (Kept i nx) e h k sk c = k i nx refl
+no_other ev s at (Skipped i nx) e h k sk c = sk i nx refl
+no_other ev s at (Cut t nx) e h k sk c = c t nx refl
+no_other ev s at (End nx) e h k sk c = let t = turn ev s at _ e in omega arith
+no_other ev s at (Refused n) e h k sk c = turn ev s at _ e
 
 -- ---- from one item to the next
 

@@ -1,6 +1,6 @@
 -- The items of a payload: tag, length, value; how the reader goes from one to the next, and what an opening reports of them. `ev` says
 -- whether the payload is an event's. Assumes nothing.
-use Rattle.std.specs.Prelude.{ℕ, zero, suc, ◌+◌, ◌-◌, ◌%◌, ◌≤◌, ◌<◌, Bool, true, false, not, ◌&&◌, ◌≡◌, List, [], ◌∷◌, ltb, leb, eqb, length, get_or, take, drop}
+use Rattle.std.specs.Prelude.{ℕ, zero, suc, ◌+◌, ◌-◌, ◌%◌, ◌≤◌, ◌<◌, Bool, true, false, not, ◌&&◌, ◌≡◌, List, [], ◌∷◌, Option, MatchOption, ltb, leb, eqb, length, get_or, take, drop}
 use Rattle.base.specs.Pick.{pick}
 use Rattle.base.specs.Numbers.{frame_long, payload_most}
 use Rattle.base.specs.Answers.{Answer, value, number}
@@ -176,6 +176,11 @@ next_of (Refused n) = 0
 unfoldable pub walked_to : Bool → List ℕ → ℕ → ℕ → ℕ
 walked_to ev s zero at = at
 walked_to ev s (suc n) at = walked_to ev s n (next_of (item_at ev s at))
+
+-- what an iterator at a place gives, and where it stands then: nothing more from the end on
+abbrev pub goes_on_to : Bool → List ℕ → ℕ → Option ItemRead → Bool → List ℕ → ℕ → Type 0
+goes_on_to ev s at r ev2 s2 at2 =
+    (ev2 ≡ ev) × (s2 ≡ s) × MatchOption r ((length s ≤ at) × (at2 ≡ at)) (λ i. (at < length s) × (item_at ev s at ≡ i) × (at2 ≡ next_of i))
 
 abbrev pub kept_before : ItemRead → List Item → List Item
 kept_before (Kept i nx) is = i ∷ is

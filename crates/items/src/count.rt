@@ -3,7 +3,7 @@
 ghost use Rattle.std.specs.Prelude.{◌≡◌, Bool};
 ghost use Rattle.items.specs.Items.{kept_clean, opening_of, nothing, counts_of};
 
-use crate::item::{Command, Event, ItemRead, is_beat, next_item};
+use crate::item::{Command, Event, ItemRead, Items, is_beat};
 use base::{Limit, Refusal};
 use fields::RelayPath;
 
@@ -38,52 +38,34 @@ fn kept_clean(is_event: bool, tag: u8, value: &[u8]) -> bool
 pub fn count_items(payload: &[u8], is_event: bool) -> Opening
     ensures { result ≡ opening_of is_event payload.now }
 {
-    let mut at: usize = 0;
-    let mut kept: usize = 0;
-    let mut skipped: usize = 0;
-    let mut kept_bytes: usize = 0;
-    let mut skipped_bytes: usize = 0;
-    let mut clean = true;
-    loop {
-        match next_item(payload, at, is_event) {
-            ItemRead::Kept { item, next } => {
+    let mut all = Opening::none();
+    let items = Items {
+        payload,
+        at: 0,
+        is_event,
+    };
+    for read in items {
+        match read {
+            ItemRead::Kept { item, next: _ } => {
                 let run = item.value;
-                clean = clean & kept_clean(is_event, item.tag, run.bytes(payload));
-                kept = kept + 1;
-                kept_bytes = kept_bytes + (next - at);
-                at = next;
+                all.clean = all.clean & kept_clean(is_event, item.tag, run.bytes(payload));
+                all.kept += 1;
+                all.kept_bytes += 2 + run.len;
             }
-            ItemRead::Skipped { item: _, next } => {
-                clean = false;
-                skipped = skipped + 1;
-                skipped_bytes = skipped_bytes + (next - at);
-                at = next;
+            ItemRead::Skipped { item, next: _ } => {
+                let run = item.value;
+                all.clean = false;
+                all.skipped += 1;
+                all.skipped_bytes += 2 + run.len;
             }
             ItemRead::Cut { tail, next: _ } => {
-                return Opening {
-                    kept,
-                    skipped,
-                    kept_bytes,
-                    skipped_bytes,
-                    cut_bytes: tail.len,
-                    clean: false,
-                };
+                all.clean = false;
+                all.cut_bytes += tail.len;
             }
-            ItemRead::End { next: _ } => {
-                return Opening {
-                    kept,
-                    skipped,
-                    kept_bytes,
-                    skipped_bytes,
-                    cut_bytes: 0,
-                    clean,
-                };
-            }
-            ItemRead::Refused(_) => {
-                return Opening::none();
-            }
+            _ => {}
         }
     }
+    all
 }
 
 impl Opening {

@@ -1,7 +1,8 @@
 // One item at a time, at a place in the payload that the caller keeps.
-ghost use Rattle.std.specs.Prelude.{◌≡◌, ◌≤◌};
+ghost use Rattle.std.specs.Prelude.{◌≡◌, ◌≤◌, ◌-◌, length};
+ghost use Rattle.std.specs.Iterator.{at_most};
 ghost use Rattle.std.proofs.Math.Bool as Bool;
-ghost use Rattle.items.specs.Items.{is_beat, kind_of, kind_code, bad_beat, cut_at, item_at, bare_item_at, sealed_item, type_of};
+ghost use Rattle.items.specs.Items.{is_beat, kind_of, kind_code, bad_beat, cut_at, item_at, bare_item_at, sealed_item, type_of, goes_on_to};
 
 use base::{Limit, Refusal, wide};
 use wire::Run;
@@ -111,6 +112,35 @@ pub fn next_item(payload: &[u8], at: usize, is_event: bool) -> ItemRead
     ItemRead::Kept { item, next }
 }
 
+// The items of a payload from a place on, one after the other. A cut tail comes last.
+#[derive(Drop)]
+pub struct Items<'a> {
+    pub payload: &'a [u8],
+    pub at: usize,
+    pub is_event: bool,
+}
+
+impl<'a> Iterator for Items<'a> {
+    type Item = ItemRead;
+
+    ghost next_gives = { λ s r t. goes_on_to s.is_event s.payload.now s.at r t.is_event t.payload.now t.at };
+
+    ghost remaining = { λ s. at_most (length s.payload.now - s.at) };
+
+    fn next(&mut self) -> Option<ItemRead> {
+        let read = next_item(self.payload, self.at, self.is_event);
+        match read {
+            ItemRead::Kept { item: _, next }
+            | ItemRead::Skipped { item: _, next }
+            | ItemRead::Cut { tail: _, next } => {
+                self.at = next;
+                Some(read)
+            }
+            ItemRead::End { next: _ } | ItemRead::Refused(_) => None,
+        }
+    }
+}
+
 impl ItemKind {
     // The kinds as numbers, of items that are read and of those that a caller composes: a heartbeat in bytes, any other value in bytes, and a
     // path in lists of its entries, which is a heartbeat that was not read.
@@ -132,6 +162,8 @@ impl ItemKind {
     }
 }
 
+// An event's calls and a command's differ in one truth value: a trait over the two would take it as a constant with a ghost member beside it,
+// and be no shorter.
 impl Event {
     // The item of an event's payload at a place: 5 where the payload is too long for any frame.
     pub fn decode(payload: &[u8], at: usize) -> ItemRead

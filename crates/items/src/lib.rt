@@ -5,4 +5,4 @@ mod count;
 mod item;
 
 pub use count::{Opening, OpeningRead, count_items};
-pub use item::{Command, Event, Item, ItemKind, ItemRead, is_beat, next_item};
+pub use item::{Command, Event, Item, ItemKind, ItemRead, Items, is_beat, next_item};

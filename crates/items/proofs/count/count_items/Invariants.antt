@@ -1,13 +1,9 @@
 -- `items::count::count_items` meets its contract. Assumes nothing.
-use lib.ListN.{length}
-use Prim.Native.Nat.{◌-◌}
+use mathlib.Core.Path.{◌≡◌}
 use Rattle.items.proofs.Loop.{Sofar}
 use Rattle.items.proofs.count.count_items.Given as goal
 
-abbrev pub invariant-loop-item : goal.invariant-loop-item
-invariant-loop-item l =
-    Sofar l.is_event l.payload l.at l.kept l.skipped l.kept_bytes l.skipped_bytes l.clean
-
-abbrev pub decreases-loop-item : goal.decreases-loop-item
-decreases-loop-item l =
-    length l.payload - l.at
+abbrev pub invariant-loop-read : goal.invariant-loop-read
+invariant-loop-read l =
+    (goal.iterator-loop-read).can_next l.read-iterator × (goal.iterator-loop-read).is_finite l.read-iterator
+    × (l.read-iterator.is_event ≡ l.is_event) × (l.read-iterator.payload.now ≡ l.payload) × Sofar l.is_event l.payload l.read-iterator.at l.all
