@@ -1,5 +1,6 @@
 -- Laws of items as they are written, and of an open payload. Assumes nothing.
 use Prim.Native.Nat.{ℕ, ◌+◌, ◌%◌, ◌<◌, ◌≤◌}
+use native.Mathlib.Nat.{add-zero}
 use native.Mathlib.Omega.{arith}
 use mathlib.Core.Bool.{Bool, false}
 use mathlib.Core.Path.{◌≡◌, refl, sym, ap, ◌∙◌}
@@ -8,7 +9,7 @@ use lib.ListN.{length, get_or, set, length-append}
 use Rattle.base.specs.Lists.{imap}
 use Rattle.base.proofs.Lists.{imap_length, imap_at, imap_id}
 use Rattle.wire.specs.Lay.{put}
-use Rattle.wire.proofs.Laws.Lay.{put_none, puts_join, Laying, laying_more}
+use Rattle.wire.proofs.Laws.Lay.{put_none, puts_join, Laying, laying_none, laying_more, laying_done}
 use Rattle.items.specs.Items.{is_beat, Piece, kept, skipped, cut, pieces, kept_items, kept_bytes, opening_of}
 use Rattle.items.specs.declared.count.Opening.{Opening}
 use Rattle.kept_items.specs.Kept.{fixed, item_bytes, kept_wire, open_bytes}
@@ -58,14 +59,18 @@ told ev s r e = ap (λ (x : Opening). x.kept_bytes) e ∙ sym (open_length ev s)
 -- ---- one value, and one item, laid
 
 module _ (beat : Bool) (v o : List ℕ) (at : ℕ) where
-  pub value_none : length o < at + length v → o ≡ put o at (imap (fixed beat) 0 v)
-  value_none h = let l = imap_length (fixed beat) 0 v in sym (put_none o at (imap (fixed beat) 0 v) (omega arith))
-
   pub value_more : (out : List ℕ) (i x : ℕ) → at + length v ≤ length o → i < length v → x ≡ fixed beat i (get_or v i 0)
       → Laying o at (imap (fixed beat) 0 v) out i → Laying o at (imap (fixed beat) 0 v) (set out (at + i) x) (i + 1)
   value_more out i x h k e l =
       let n = imap_length (fixed beat) 0 v in
       laying_more o at (imap (fixed beat) 0 v) (omega arith) out i x (omega arith) (e ∙ sym (imap_at (fixed beat) v i k)) l
+
+-- two bytes, one after the other
+pub head_put : (o : List ℕ) (at t n : ℕ) → at + 2 ≤ length o → set (set o at t) (at + 1) n ≡ put o at (t ∷ n ∷ [])
+head_put o at t n h =
+    let w = t ∷ n ∷ [] in
+    let a = laying_more o at w h o 0 t (omega arith) refl (laying_none o at w) in
+    laying_done o at w h _ 2 (omega arith) (laying_more o at w h _ 1 n (omega arith) refl (rw add-zero at a))
 
 module _ (beat : Bool) (t : ℕ) (v o : List ℕ) (at : ℕ) where
   pub item_none : length o < at + (2 + length v) → o ≡ put o at (item_bytes beat t v)

@@ -1,62 +1,50 @@
 -- `kept_items::put_kept` meets its contract. Assumes nothing.
-use lib.ListN.{length}
-use Prim.Native.Nat.{◌+◌, ◌≤◌, ◌<◌}
-use native.Mathlib.Omega.{arith}
-use mathlib.Core.Path.{sym, ◌∙◌}
-use Rattle.wire.proofs.Laws.Lay.{put_none, joining_same}
-use Rattle.items.proofs.Laws.{turn}
+use Rattle.std.proofs.Common.{rules, arith, sym, refl}
+use Rattle.wire.proofs.Laws.Lay.{put_none}
+use Rattle.items.proofs.Laws.{came}
 use Rattle.kept_items.proofs.Laws.{told}
-use Rattle.kept_items.proofs.Loop.{none_yet, room, one_kept, one_skipped, at_cut, at_end}
+use Rattle.kept_items.proofs.Loop.{none_yet, room, one_kept, none_kept, at_end}
+use Rattle.items.specs.declared.item.ItemRead.TheVariants.{Kept}
 use Rattle.kept_items.specs.Kept.{open_bytes}
 use Rattle.kept_items.proofs.put_kept.Goals as goal
 
 pub returns-then-out-at : goal.returns-then-out-at
-returns-then-out-at c = let a = c.args in let t = told a.is_event a.payload.now _ c.count_items-told.ensures in
-    sym (put_none a.out.now a.at (open_bytes a.is_event a.payload.now) (let h : length a.out.now < a.at + length (open_bytes a.is_event a.payload.now) = omega arith in h))
+returns-then-out-at c = let a = c.args in let t = told a.is_event a.payload.now _ c.count_items-told.ensures in sym (put_none a.out.now a.at (open_bytes a.is_event a.payload.now) (omega arith))
 
 pub returns-then-out-at-2 : goal.returns-then-out-at-2
-returns-then-out-at-2 c = let a = c.args in let t = told a.is_event a.payload.now _ c.count_items-told.ensures in
-    sym (put_none a.out.now a.at (open_bytes a.is_event a.payload.now) (let h : length a.out.now < a.at + length (open_bytes a.is_event a.payload.now) = omega arith in h))
+returns-then-out-at-2 c = let a = c.args in let t = told a.is_event a.payload.now _ c.count_items-told.ensures in sym (put_none a.out.now a.at (open_bytes a.is_event a.payload.now) (omega arith))
 
-pub loop-item-init : goal.loop-item-init
-loop-item-init c = let a = c.args in let t = told a.is_event a.payload.now _ c.count_items-told.ensures in
-    none_yet a.is_event a.payload.now a.out.now a.at (let h : a.at + length (open_bytes a.is_event a.payload.now) ≤ length a.out.now = omega arith in h)
+pub loop-read-init : goal.loop-read-init
+loop-read-init c =
+    let a = c.args in
+    let t = told a.is_event a.payload.now _ c.count_items-told.ensures in
+    let e = c.into_iter-read-iterator.ensures.into_iter_gives in
+    rw e (tt, tt, refl, refl, none_yet a.is_event a.payload.now a.out.now a.at (omega arith))
 
-pub overflow_add-at : goal.overflow_add-at
-overflow_add-at c = let r = room _ _ _ _ _ _ _ c.loop-item.invariant _ _ (sym c.next_item.ensures ∙ c.in-Kept.is) in omega arith
-
-pub overflow_sub-o : goal.overflow_sub-o
-overflow_sub-o c = let t = turn _ _ _ _ (sym c.next_item.ensures ∙ c.in-Kept.is) in omega arith
+pub lay_item-requires : goal.lay_item-requires
+lay_item-requires c =
+    let i = c.loop-read.invariant in
+    let m = came (Kept _ _) i.2 i.3 c.in-Some.ensures.steps c.in-Kept.is in
+    let r = room _ _ _ _ _ _ _ i.4 _ _ m.2 in
+    rw c.bytes.ensures (omega arith)
 
 pub overflow_add-o : goal.overflow_add-o
-overflow_add-o c = let r = room _ _ _ _ _ _ _ c.loop-item.invariant _ _ (sym c.next_item.ensures ∙ c.in-Kept.is) in omega arith
+overflow_add-o c = let i = c.loop-read.invariant in let m = came (Kept _ _) i.2 i.3 c.in-Some.ensures.steps c.in-Kept.is in let r = room _ _ _ _ _ _ _ i.4 _ _ m.2 in search rules
 
-pub loop-item-smaller-in-Kept : goal.loop-item-smaller-in-Kept
-loop-item-smaller-in-Kept c = let t = turn _ _ _ _ (sym c.next_item.ensures ∙ c.in-Kept.is) in omega arith
+pub overflow_add-o-in-Kept : goal.overflow_add-o-in-Kept
+overflow_add-o-in-Kept c = let i = c.loop-read.invariant in let m = came (Kept _ _) i.2 i.3 c.in-Some.ensures.steps c.in-Kept.is in let r = room _ _ _ _ _ _ _ i.4 _ _ m.2 in search rules
 
-pub loop-item-preserved-in-Kept : goal.loop-item-preserved-in-Kept
-loop-item-preserved-in-Kept c = one_kept _ _ _ _ _ _ _ c.loop-item.invariant _ _ (sym c.next_item.ensures ∙ c.in-Kept.is) _ _ _ c.is_beat.ensures c.bytes.ensures c.put_item.ensures
+pub loop-read-preserved-in-Kept : goal.loop-read-preserved-in-Kept
+loop-read-preserved-in-Kept c =
+    let i = c.loop-read.invariant in
+    let m = came (Kept _ _) i.2 i.3 c.in-Some.ensures.steps c.in-Kept.is in
+    (tt, tt, m.0, m.1, rw m.3 (one_kept _ _ _ _ _ _ _ i.4 _ _ m.2 _ _ _ c.is_beat-beat.ensures c.bytes.ensures c.lay_item.ensures))
 
-pub loop-item-smaller : goal.loop-item-smaller
-loop-item-smaller c = let t = turn _ _ _ _ (sym c.next_item.ensures ∙ c.in-Skipped.is) in omega arith
+pub loop-read-preserved : goal.loop-read-preserved
+loop-read-preserved c =
+    let i = c.loop-read.invariant in
+    let m = came c.in-Some.read i.2 i.3 c.in-Some.ensures.steps refl in
+    (tt, tt, m.0, m.1, rw m.3 (none_kept _ _ _ _ _ _ _ i.4 _ m.2 (rw i.3 at c.in-Some.ensures.steps.2.0) c.in_default.not-Kept))
 
-pub loop-item-preserved : goal.loop-item-preserved
-loop-item-preserved c = one_skipped _ _ _ _ _ _ _ c.loop-item.invariant _ _ (sym c.next_item.ensures ∙ c.in-Skipped.is)
-
-pub shape_of-out-in-Cut : goal.shape_of-out-in-Cut
-shape_of-out-in-Cut c = joining_same _ _ _ _ _ _ c.loop-item.invariant.laid
-
-pub returns-in-Cut : goal.returns-in-Cut
-returns-in-Cut c = at_cut _ _ _ _ _ _ _ c.loop-item.invariant _ _ (sym c.next_item.ensures ∙ c.in-Cut.is)
-
-pub shape_of-out-in-End : goal.shape_of-out-in-End
-shape_of-out-in-End c = joining_same _ _ _ _ _ _ c.loop-item.invariant.laid
-
-pub returns-in-End : goal.returns-in-End
-returns-in-End c = at_end _ _ _ _ _ _ _ c.loop-item.invariant _ (sym c.next_item.ensures ∙ c.in-End.is)
-
-pub shape_of-out-in-Refused : goal.shape_of-out-in-Refused
-shape_of-out-in-Refused c = joining_same _ _ _ _ _ _ c.loop-item.invariant.laid
-
-pub returns-in-Refused : goal.returns-in-Refused
-returns-in-Refused c = absurd (turn _ _ _ _ (sym c.next_item.ensures ∙ c.in-Refused.is))
+pub returns : goal.returns
+returns c = let i = c.loop-read.invariant in at_end _ _ _ _ _ _ _ i.4 (rw i.3 at c.in-None.ensures.steps.2.0)

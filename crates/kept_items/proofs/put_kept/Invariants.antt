@@ -1,13 +1,10 @@
 -- `kept_items::put_kept` meets its contract. Assumes nothing.
-use lib.ListN.{length}
-use Prim.Native.Nat.{◌-◌}
+use mathlib.Core.Path.{◌≡◌}
 use Rattle.kept_items.proofs.Loop.{Sofar}
 use Rattle.kept_items.proofs.put_kept.Given as goal
 
-abbrev pub invariant-loop-item : goal.invariant-loop-item
-invariant-loop-item l =
-    Sofar l.is_event l.payload l.initial.out l.at l.out l.p l.o
-
-abbrev pub decreases-loop-item : goal.decreases-loop-item
-decreases-loop-item l =
-    length l.payload - l.p
+abbrev pub invariant-loop-read : goal.invariant-loop-read
+invariant-loop-read l =
+    (goal.iterator-loop-read).can_next l.read-iterator × (goal.iterator-loop-read).is_finite l.read-iterator
+    × (l.read-iterator.is_event ≡ l.is_event) × (l.read-iterator.payload.now ≡ l.payload)
+    × Sofar l.is_event l.payload l.initial.out l.at l.out l.read-iterator.at l.o

@@ -1,6 +1,4 @@
 -- `kept_items::put_value` meets its contract. Assumes nothing.
-use lib.ListN.{length}
-use Prim.Native.Nat.{◌-◌}
 use Rattle.base.specs.Lists.{imap}
 use Rattle.wire.proofs.Laws.Lay.{Laying}
 use Rattle.kept_items.specs.Kept.{fixed}
@@ -9,7 +7,3 @@ use Rattle.kept_items.proofs.put_value.Given as goal
 abbrev pub invariant-loop-i : goal.invariant-loop-i
 invariant-loop-i l =
     Laying l.initial.out l.at (imap (fixed l.beat) 0 l.value) l.out l.i
-
-abbrev pub decreases-loop-i : goal.decreases-loop-i
-decreases-loop-i l =
-    length l.value - l.i
