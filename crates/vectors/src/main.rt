@@ -7,6 +7,7 @@ use cache::{Cache, CacheAnswer, PayloadCache};
 use cipher::prepare;
 use cmac::{absorb, cmac, finish, subkey1, subkey2};
 use cmac_chain::Mac;
+use contents::Lent;
 use derivation::{encrypt_block, get_encryption_key, get_signing_key};
 use fields::{FreqRead, HeaderRead, MHDR, PayloadType, UplinkMetadata, decode_freq, encode_freq};
 use fips197::sbox_table;
@@ -574,10 +575,10 @@ fn validated(rt: &impl Print, v: Validated) -> io::Result<()> {
 fn valid(rt: &impl Print, frame: &[u8], key: Aes128Key) -> io::Result<()> {
     match MeshPacket::from_slice(frame) {
         MeshRead::Refused(n) => number(rt, " ", n),
-        MeshRead::Mesh(p) => validated(
-            rt,
-            validate_mic(p, key, frame, b"", &[[0, 0]], &[[0, 0]], &[0], &[0], &[0]),
-        ),
+        MeshRead::Mesh(p) => {
+            let lent = Lent::of(frame, b"", &[[0, 0]], &[[0, 0]], &[0], &[0], &[0]);
+            validated(rt, validate_mic(p, key, &lent))
+        }
     }
 }
 
