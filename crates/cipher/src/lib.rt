@@ -115,7 +115,9 @@ fn unload(s: Cols) -> [u8; 16]
 
 // ---- what is laid out for a key
 
-// The cipher made ready for a key.
+// The cipher made ready for a key. Always taken into its caller, which gives the place that it is laid out in: as a call of its own it would lay it
+// out on the stack, to be copied from there.
+#[inline(always)]
 pub fn prepare(key: Aes128Key) -> Cipher
     ensures { result ≡ prepared key.0 }
 {
