@@ -25,6 +25,10 @@ pub fn dump_line(line: &[u8], out: &mut [u8]) -> Written
     if bad {
         return write_refused(Refusal::LINE_DIGITS, out);
     }
+    // before the array, which would take most of the time of a line of nothing
+    if n == 0 {
+        return write_refused(Refusal::FRAME_EMPTY, out);
+    }
     if Limit::FRAME < n {
         return write_refused(Refusal::FRAME_LONG, out);
     }

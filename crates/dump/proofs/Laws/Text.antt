@@ -3,12 +3,12 @@
 use Prim.Native.Nat.{ℕ, ◌+◌, ◌-◌, ◌/◌, ◌%◌, ◌≤◌, ◌<◌}
 use native.Mathlib.Omega.{arith}
 use mathlib.Core.Path.{◌≡◌, refl, sym, ap, ◌∙◌}
-use mathlib.Core.Bool.{Bool, true, false, not}
+use mathlib.Core.Bool.{Bool, true, false, not, false≢true}
 use mathlib.Core.List.{List, [], ◌∷◌, ◌++◌, append-nil}
-use lib.Dec.{ltb, eqb}
+use lib.Dec.{ltb, leb, eqb}
 use lib.ListN.{length, take, drop, replicate, get_or, length-append, length-replicate}
 use lib.Seq.{take-append_seam}
-use borrow.Author.Tests.{lt-ltb, le-ltb, ltb-false, lt-leb, eq-eqb, ne_eqb, eqb-true, eqb-false}
+use borrow.Author.Tests.{lt-ltb, le-ltb, ltb-false, lt-leb, leb-true, eq-eqb, ne_eqb, eqb-true, eqb-false}
 use Rattle.base.specs.Pick.{pick}
 use Rattle.base.specs.Lists.{Bytes}
 use Rattle.base.specs.Numbers.{frame_empty, frame_short, frame_long, not_mesh, frame_most}
@@ -83,8 +83,19 @@ four_length : (n : ℕ) → 8 ≡ length (four_text n)
 unfolding be_bytes
 four_length n = sym (hex_length (be_bytes 4 n))
 
--- odd bits that are not told
+-- odd bits that are told, and others
 module _ (n : ℕ) where
+  pub told_most : is_told n ≡ true → n ≤ 3
+  told_most e = by (eqb n 0) e
+    where
+      by : (t : Bool) → pick t false (leb n 3) ≡ true → n ≤ 3
+      by true q = absurd (false≢true q)
+      by false q = leb-true n 3 q
+
+  pub odd_told : is_told n ≡ true → odd_text n ≡ ascii " odd: " ++ ((48 + n) ∷ [])
+  unfolding odd_text
+  odd_told e = simp e
+
   pub odd_untold : is_told n ≡ false → odd_text n ≡ []
   unfolding odd_text
   odd_untold e = simp e
@@ -291,6 +302,13 @@ module _ (s : List ℕ) where
   pub line_good : bad_hex s ≡ false → line_text s ≡ frame_text (unhex s)
   unfolding line_text
   line_good b = simp b
+
+  -- 1 where it holds nothing
+  pub line_none : bad_hex s ≡ false → length s / 2 ≡ 0 → line_text s ≡ refused_text 1
+  unfolding frame_text packet_of
+  line_none b l =
+      let n = unhex_length s in
+      line_good b ∙ simp (eq-eqb (length (unhex s)) 0 (omega arith))
 
   -- 5 whatever it holds
   pub line_long : bad_hex s ≡ false → 8192 < length s / 2 → line_text s ≡ refused_text 5

@@ -3,11 +3,14 @@ use mathlib.Core.Path.{sym, ap, ◌∙◌}
 use Rattle.base.specs.Answers.{bytes}
 use Rattle.links.proofs.Steps.{same_frame}
 use Rattle.dump.specs.Dump.{frame_text}
-use Rattle.dump.proofs.Laws.Text.{line_bad, line_good, line_long, line_frame}
+use Rattle.dump.proofs.Laws.Text.{line_bad, line_good, line_none, line_long, line_frame}
 use Rattle.dump.proofs.line.dump_line.Goals as goal
 
 pub returns-then-bad : goal.returns-then-bad
 returns-then-bad c = (let both = same_frame _ _ _ _ _ (ap bytes (line_bad _ (sym c.bad_hex-bad.ensures ∙ c.if-bad.true))) (c.write_refused.ensures.answer, c.write_refused.ensures.bytes) in record { answer = both.0; bytes = both.1 })
+
+pub returns-then-n-eq0 : goal.returns-then-n-eq0
+returns-then-n-eq0 c = (let both = same_frame _ _ _ _ _ (ap bytes (line_none _ (sym c.bad_hex-bad.ensures ∙ c.if-bad.false) c.if-n-eq0.true)) (c.write_refused-then-n-eq0.ensures.answer, c.write_refused-then-n-eq0.ensures.bytes) in record { answer = both.0; bytes = both.1 })
 
 pub returns-then-n-gt-FRAME : goal.returns-then-n-gt-FRAME
 returns-then-n-gt-FRAME c = (let both = same_frame _ _ _ _ _ (ap bytes (line_long _ (sym c.bad_hex-bad.ensures ∙ c.if-bad.false) c.if-n-gt-FRAME.true)) (c.write_refused-then-n-gt-FRAME.ensures.answer, c.write_refused-then-n-gt-FRAME.ensures.bytes) in record { answer = both.0; bytes = both.1 })
