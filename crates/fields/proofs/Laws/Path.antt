@@ -107,8 +107,11 @@ module _ (v : List ℕ) (i : ℕ) (h : i % 6 ≡ 0) (l : i + 6 ≤ length v) whe
       ∙ even_byte_lem v (i + 5) (i + 6) (omega arith) (omega arith) true (eq-eqb ((i + 5) % 6) 5 (omega arith))
       ∙ ap (λ (u : Bool). u && even_from (i + 6) (drop (i + 6) v)) e
 
-  entry_even : (snr_of (get_or v (i + 5) 0)).odd ≡ 0 → even_from i (drop i v) ≡ even_from (i + 6) (drop (i + 6) v)
+  pub entry_even : (snr_of (get_or v (i + 5) 0)).odd ≡ 0 → even_from i (drop i v) ≡ even_from (i + 6) (drop (i + 6) v)
   entry_even e = entry_by true (eq-eqb _ 0 e)
+
+  pub entry_odd_lem : ((snr_of (get_or v (i + 5) 0)).odd ≡ 0 → ⊥) → even_from i (drop i v) ≡ false
+  entry_odd_lem e = entry_by false (ne_eqb _ 0 e)
 
 few_even : (i : ℕ) (v : List ℕ) → i % 6 + length v < 6 → even_from i v ≡ true
 unfolding even_from
@@ -117,7 +120,7 @@ few_even i (b ∷ v) h =
     let e : i % 6 ≡ 5 → ⊥ = λ z. omega arith in
     simp (ne_eqb (i % 6) 5 e) (few_even (suc i) v (omega arith))
 
-even_end : (v : List ℕ) (i : ℕ) → i % 6 ≡ 0 → length v < i + 6 → even_from i (drop i v) ≡ true
+pub even_end : (v : List ℕ) (i : ℕ) → i % 6 ≡ 0 → length v < i + 6 → even_from i (drop i v) ≡ true
 even_end v i h l = let n = length-drop i v in few_even i (drop i v) (omega arith)
 
 whole : (k : ℕ) → k * 6 % 6 ≡ 0
