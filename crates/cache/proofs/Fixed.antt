@@ -4,6 +4,8 @@ use Rattle.base.proofs.Outcome.{Fixed}
 use Rattle.cache.specs.declared.ring.Cache.{Cache}
 use Rattle.cache.proofs.record.PayloadCache.from_packet.Kinds as from_packet_kinds
 use Rattle.cache.proofs.record.PayloadCache.from_packet.Reads as from_packet_reads
+use Rattle.cache.proofs.record.PayloadCacheFromMeshPacket.from.Kinds as from_kinds
+use Rattle.cache.proofs.record.PayloadCacheFromMeshPacket.from.Reads as from_reads
 use Rattle.cache.proofs.record.PayloadCache.same.Kinds as same_kinds
 use Rattle.cache.proofs.record.PayloadCache.same.Reads as same_Reads
 use Rattle.cache.proofs.record.PayloadCache.pack.Kinds as pack_kinds
@@ -19,6 +21,9 @@ use Rattle.cache.proofs.ring.Cache.add.Reads as add_reads
 
 from_packet : Fixed 0 from_packet_kinds.ps from_packet_kinds.r from_packet_reads.Post
 from_packet κs a x y v w p q = (p ∙ sym q, refl)
+
+from_lem : Fixed 0 from_kinds.ps from_kinds.r from_reads.Post
+from_lem κs a x y v w p q = (p ∙ sym q, refl)
 
 same : Fixed 0 same_kinds.ps same_kinds.r same_Reads.Post
 same κs a x y v w p q = (p ∙ sym q, refl)

@@ -1,6 +1,13 @@
 -- Each public call of this crate has one outcome. Assumes nothing.
-use mathlib.Core.Path.{refl, sym, ◌∙◌}
+use Prim.Native.Nat.{ℕ}
+use native.Mathlib.Omega.{arith}
+use mathlib.Core.Bool.{Bool}
+use mathlib.Core.Path.{◌≡◌, refl, sym, ap, ◌∙◌}
+use mathlib.Core.List.{List}
+use Rattle.std.specs.Prelude.{Option, Some, None}
 use Rattle.base.proofs.Outcome.{Fixed}
+use Rattle.items.specs.declared.item.ItemRead.{ItemRead}
+use Rattle.items.specs.Items.{goes_on_to, next_of}
 use Rattle.items.proofs.count.count_items.Kinds as count_items_kinds
 use Rattle.items.proofs.count.count_items.Reads as count_items_reads
 use Rattle.items.proofs.count.Opening.none.Kinds as opening_none_kinds
@@ -56,3 +63,13 @@ item_sealed κs a x y v w p q = (p ∙ sym q, refl)
 
 item_get_type : Fixed 0 item_get_type_kinds.ps item_get_type_kinds.r item_get_type_reads.Post
 item_get_type κs a x y v w p q = (p ∙ sym q, refl)
+
+-- a step of the iterator, by what its clause says of it: the payload by what it holds, since of a lent slice no more is said
+items_next : (ev : Bool) (s : List ℕ) (at : ℕ) (r q : Option ItemRead) (e e2 : Bool) (t t2 : List ℕ) (m m2 : ℕ)
+    → goes_on_to ev s at r e t m → goes_on_to ev s at q e2 t2 m2 → (r ≡ q) × (e ≡ e2) × (t ≡ t2) × (m ≡ m2)
+items_next ev s at None None e e2 t t2 m m2 p q = (refl, p.0 ∙ sym q.0, p.1 ∙ sym q.1, p.2.1 ∙ sym q.2.1)
+items_next ev s at None (Some j) e e2 t t2 m m2 p q = let a = p.2.0 in let b = q.2.0 in absurd (omega arith)
+items_next ev s at (Some i) None e e2 t t2 m m2 p q = let a = p.2.0 in let b = q.2.0 in absurd (omega arith)
+items_next ev s at (Some i) (Some j) e e2 t t2 m m2 p q =
+    let k : i ≡ j = sym p.2.1 ∙ q.2.1 in
+    (ap Some k, p.0 ∙ sym q.0, p.1 ∙ sym q.1, p.2.2 ∙ ap next_of k ∙ sym q.2.2)

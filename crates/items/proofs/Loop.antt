@@ -144,3 +144,9 @@ module _ (ev : Bool) (s : List ℕ) (at : ℕ) (o : Opening) (f : Sofar ev s at 
         cut_bytes_lem = omega arith;
         clean = lost ev s at o f (ap (is_clean ev) u.3);
       }
+
+  pub at_cut : (r : Run) (nx : ℕ) → item_at ev s at ≡ Cut r nx → record o { cut_bytes = o.cut_bytes + r.len; clean = false } ≡ opening_of ev s
+  at_cut r nx e =
+      let u = turn ev s at _ e in
+      let m : length s ≤ nx = omega arith in
+      at_end ev s nx _ (one_cut r nx e) m
