@@ -1,19 +1,22 @@
 -- Laws of a path entry. Assumes nothing.
-use Prim.Native.Nat.{ℕ, zero, suc, ◌+◌, ◌*◌, ◌%◌, ◌≤◌, ◌<◌}
+use Prim.Native.Nat.{ℕ, zero, suc, ◌+◌, ◌*◌, ◌/◌, ◌%◌, ◌≤◌, ◌<◌}
 use native.Mathlib.Omega.{arith}
 use mathlib.Core.Bool.{Bool, true, false, ◌&&◌, and-eq-true_iff, false≢true}
 use mathlib.Core.Path.{◌≡◌, refl, sym, ap, ap₂, ◌∙◌}
 use mathlib.Core.List.{List, [], ◌∷◌}
 use lib.Dec.{ltb, eqb}
-use lib.ListN.{length, get_or, drop, length-append, length-drop}
+use lib.ListN.{length, get_or, drop, take, length-append, length-drop}
 use lib.Seq.{drop-cons}
 use borrow.Author.Tests.{ltb-true, ltb-false, eq-eqb, ne_eqb, eqb-true}
 use denote.Ref.{Bor}
 use Rattle.std.specs.Prelude.{Option, Some, None, IfSome, IsSomeAnd}
 use Rattle.std.specs.Bool.{MatchBool, IsTrue}
+use Rattle.std.specs.Fn.{Mut, Called}
 use Rattle.std.specs.List.{IsSubsliceAt}
 use Rattle.std.specs.Option.{option_map, option_len}
-use Rattle.std.specs.Iterator.Runs.{Run, AllItems, AnyItem, ItemsMapToExactChunks}
+use Rattle.std.specs.Iterator.Runs.{Run, AllItems, AllItemsGive, AnyItem, AnyItemGives, CallKeepsClosure, ItemsMapToExactChunks}
+use Rattle.std.proofs.lemmas.List.{length-take, get_or-take}
+use Rattle.std.proofs.lemmas.Option.{IfSome_then}
 use Rattle.base.specs.Pick.{pick}
 use Rattle.base.specs.Lists.{Bytes, imap, joined}
 use Rattle.base.proofs.Lists.{◌◂◌, listed}
@@ -172,6 +175,24 @@ module _ (v : List ℕ) where
       by true p = absurd (o.2 (even_entries.0 p o.0 o.1))
       by false p = refl
 
+-- those of a part are those of the whole, where each whole entry lies in it: cited by two must-fail edits
+module _ (n : ℕ) (v : List ℕ) (h : length v / 6 * 6 ≤ n) where
+  same_odd : (k : ℕ) → k * 6 + 6 ≤ length v → (snr_of (get_or (take n v) (k * 6 + 5) 0)).odd ≡ (snr_of (get_or v (k * 6 + 5) 0)).odd
+  same_odd k l = ap (λ (b : ℕ). (snr_of b).odd) (get_or-take n v (k * 6 + 5) 0 (omega arith))
+
+  both : (s t : Bool) → all_even (take n v) ≡ s → all_even v ≡ t → s ≡ t
+  both true true p q = refl
+  both false false p q = refl
+  both true false p q =
+      let m = length-take n v in
+      absurd (false≢true (sym q ∙ (even_entries v).1 (λ k l. sym (same_odd k l) ∙ (even_entries (take n v)).0 p k (omega arith))))
+  both false true p q =
+      let m = length-take n v in
+      absurd (false≢true (sym p ∙ (even_entries (take n v)).1 (λ k l. same_odd k (omega arith) ∙ (even_entries v).0 q k (omega arith))))
+
+  pub even_part : all_even (take n v) ≡ all_even v
+  even_part = both (all_even (take n v)) (all_even v) refl refl
+
 -- an iterator over the entries, where a test asks for the odd bits of each: what `all` answers
 module _ {S : Type 0} {steps : S → Option (Bor (List ℕ)) → S → Type 0} (p : Run steps) (v : List ℕ) (chunks : ItemsMapToExactChunks p (λ x. x.now) 6 v) where
   abbrev pub sixth : Bor (List ℕ) → ℕ
@@ -205,6 +226,16 @@ module _ {S : Type 0} {steps : S → Option (Bor (List ℕ)) → S → Type 0} (
   pub tests_even : (r : Bool) → MatchBool r (IsTrue p.whole × AllItems p (λ x. (snr_of (sixth x)).odd ≡ 0)) (AnyItem p (λ x. (snr_of (sixth x)).odd ≡ 0 → ⊥)) → r ≡ all_even v
   tests_even true m = sym ((even_entries v).1 (even_at_lem m.0 m.1))
   tests_even false m = odd_entry v (odd_at_lem m)
+
+  -- so where a closure tells of each whether they are 0
+  module _ {F : Type 0} {g : Mut F (Bor (List ℕ) × Unit {0}) Bool} {f : F} (keeps : CallKeepsClosure g f) (tells : (x : Bor (List ℕ)) (b : Bool) → Called g f (x, tt) b f → b ≡ eqb (snr_of (sixth x)).odd 0) where
+    odd_tells : (o : Option (Bor (List ℕ))) → IsSomeAnd o (λ x. Called g f (x, tt) false f) → IsSomeAnd o (λ x. (snr_of (sixth x)).odd ≡ 0 → ⊥)
+    odd_tells None h = h
+    odd_tells (Some x) h = λ e. false≢true (tells x false h ∙ eq-eqb _ 0 e)
+
+    pub told_even : (r : Bool) → MatchBool r (IsTrue p.whole × AllItemsGive p g f true) (AnyItemGives p g f false) → r ≡ all_even v
+    told_even true m = tests_even true (m.0, λ k. IfSome_then (p.at k) (m.1 keeps k) (λ x h. eqb-true _ 0 (sym (tells x true h))))
+    told_even false m = let a = m keeps in tests_even false (a.0, a.1, odd_tells (p.at a.0) a.2)
 
 -- bytes are written as they are exactly if their odd bits are 0
 byte_even : (i b : ℕ) → (is_even i b ≡ true → entry_byte i b ≡ b) × (entry_byte i b ≡ b → is_even i b ≡ true)

@@ -1,9 +1,10 @@
 -- `fields::path::RelayPath::all_even` meets its contract. Assumes nothing.
+use mathlib.Core.Path.{ap, ◌∙◌}
 use Rattle.std.proofs.Common.{rules}
-use Rattle.fields.specs.Signal.{snr_of}
-use Rattle.fields.proofs.Laws.Path.{tests_even}
+use Rattle.fields.specs.Path.{all_even}
+use Rattle.fields.proofs.Laws.Path.{told_even}
 use Rattle.fields.proofs.path.RelayPath.all_even.Goals as goal
 
 pub returns : goal.returns
-unfolding snr_of
-returns c = let r = c.all.ensures.runs in tests_even r.0 c.args.path.now (search rules) c.all.result (search rules)
+returns c =
+    let r = c.all.ensures.runs in told_even r.0 c.chunks_exact.result.rest.now (search rules) (search rules) (search rules) c.all.result r.2 ∙ ap all_even c.chunks_exact.ensures.rest
