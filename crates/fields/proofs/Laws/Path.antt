@@ -1,9 +1,9 @@
 -- Laws of a path entry. Assumes nothing.
 use Prim.Native.Nat.{ℕ, zero, suc, ◌+◌, ◌*◌, ◌/◌, ◌%◌, ◌≤◌, ◌<◌}
 use native.Mathlib.Omega.{arith}
-use mathlib.Core.Bool.{Bool, true, false, ◌&&◌, and-eq-true_iff, false≢true}
+use mathlib.Core.Bool.{Bool, true, false, ◌&&◌, and-eq-true_iff, and-true, and_assoc, false≢true}
 use mathlib.Core.Path.{◌≡◌, refl, sym, ap, ap₂, ◌∙◌}
-use mathlib.Core.List.{List, [], ◌∷◌}
+use mathlib.Core.List.{List, [], ◌∷◌, ◌++◌}
 use lib.Dec.{ltb, eqb}
 use lib.ListN.{length, get_or, drop, take, length-append, length-drop}
 use lib.Seq.{drop-cons}
@@ -15,7 +15,7 @@ use Rattle.std.specs.Fn.{Mut, Called}
 use Rattle.std.specs.List.{IsSubsliceAt}
 use Rattle.std.specs.Option.{option_map, option_len}
 use Rattle.std.specs.Iterator.Runs.{Run, AllItems, AllItemsGive, AnyItem, AnyItemGives, CallKeepsClosure, ItemsMapToExactChunks}
-use Rattle.std.proofs.lemmas.List.{length-take, get_or-take}
+use Rattle.std.proofs.lemmas.List.{length-take, take-append-drop}
 use Rattle.std.proofs.lemmas.Option.{IfSome_then}
 use Rattle.base.specs.Pick.{pick}
 use Rattle.base.specs.Lists.{Bytes, imap, joined}
@@ -175,23 +175,22 @@ module _ (v : List ℕ) where
       by true p = absurd (o.2 (even_entries.0 p o.0 o.1))
       by false p = refl
 
+even_append : (i k : ℕ) (u w : List ℕ) → i + length u ≡ k → even_from i (u ++ w) ≡ (even_from i u && even_from k w)
+unfolding even_from
+even_append i k [] w e = let n : i ≡ k = omega arith in ap (λ (j : ℕ). even_from j w) n
+even_append i k (b ∷ u) w e =
+    ap (λ (t : Bool). is_even i b && t) (even_append (suc i) k u w (omega arith)) ∙ sym (and_assoc (is_even i b) (even_from (suc i) u) (even_from k w))
+
 -- those of a part are those of the whole, where each whole entry lies in it: cited by two must-fail edits
-module _ (n : ℕ) (v : List ℕ) (h : length v / 6 * 6 ≤ n) where
-  same_odd : (k : ℕ) → k * 6 + 6 ≤ length v → (snr_of (get_or (take n v) (k * 6 + 5) 0)).odd ≡ (snr_of (get_or v (k * 6 + 5) 0)).odd
-  same_odd k l = ap (λ (b : ℕ). (snr_of b).odd) (get_or-take n v (k * 6 + 5) 0 (omega arith))
-
-  both : (s t : Bool) → all_even (take n v) ≡ s → all_even v ≡ t → s ≡ t
-  both true true p q = refl
-  both false false p q = refl
-  both true false p q =
-      let m = length-take n v in
-      absurd (false≢true (sym q ∙ (even_entries v).1 (λ k l. sym (same_odd k l) ∙ (even_entries (take n v)).0 p k (omega arith))))
-  both false true p q =
-      let m = length-take n v in
-      absurd (false≢true (sym p ∙ (even_entries (take n v)).1 (λ k l. same_odd k (omega arith) ∙ (even_entries v).0 q k (omega arith))))
-
-  pub even_part : all_even (take n v) ≡ all_even v
-  even_part = both (all_even (take n v)) (all_even v) refl refl
+pub even_part : (n : ℕ) (v : List ℕ) → length v / 6 * 6 ≤ n → all_even (take n v) ≡ all_even v
+even_part n v h =
+    let t = length-take n v in
+    let d = length-drop n v in
+    let k = length (take n v) in
+    sym (and-true (all_even (take n v)))
+    ∙ ap (λ (e : Bool). all_even (take n v) && e) (sym (few_even k (drop n v) (omega arith)))
+    ∙ sym (even_append 0 k (take n v) (drop n v) (omega arith))
+    ∙ ap all_even (take-append-drop n v)
 
 -- an iterator over the entries, where a test asks for the odd bits of each: what `all` answers
 module _ {S : Type 0} {steps : S → Option (Bor (List ℕ)) → S → Type 0} (p : Run steps) (v : List ℕ) (chunks : ItemsMapToExactChunks p (λ x. x.now) 6 v) where
